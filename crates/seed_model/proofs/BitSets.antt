@@ -1,0 +1,86 @@
+-- Lists of bits, packed in words.
+use Rattle.std.specs.Prelude.{◌==◌}
+use Rattle.std.proofs.Common.{◌≡◌, ◌≢◌, ◌∙◌, ◌+◌, ◌/◌, ◌%◌, ◌<◌, ◌∷◌, [], ℕ, zero, suc, List, Bool, false, refl, sym, ap, length, get_or, arith, inl, inr, replicate, add-zero}
+use Rattle.std.proofs.Math.ListN.{set}
+use Rattle.std.specs.Int.{bit_at}
+use Rattle.std.proofs.lemmas.List.{get_or-set_same, get_or-set_other, length-set}
+use Rattle.std.proofs.lemmas.Bool.{cases_Bool, eqb-true}
+use Rattle.std.proofs.lemmas.Bool.Decides.{nat_tests}
+use Rattle.std.proofs.lemmas.Nat.Bits.{bit_at-zero}
+use Rattle.std.proofs.lemmas.Grind.{get_or_default_zero}
+use Rattle.std.proofs.lemmas.Nat.{and_mask}
+use Rattle.std.specs.Prelude.{bit_and, ◌^◌}
+use Rattle.seed_model.specs.Bits.{bits_from, bits_of, has_bit, HasRoom}
+
+pub length-bits_from : (words : List ℕ) (f n : ℕ) → length (bits_from words f n) ≡ n
+length-bits_from words f zero = refl
+length-bits_from words f (suc n) = ap suc (length-bits_from words (f + 1) n)
+
+pub get-bits_from : (words : List ℕ) (f n i : ℕ) → i < n → get_or (bits_from words f n) i false ≡ has_bit words (f + i)
+get-bits_from words f zero i lt = absurd (omega arith)
+get-bits_from words f (suc n) zero lt = rw add-zero refl
+get-bits_from words f (suc n) (suc i) lt =
+    let at : f + suc i ≡ f + 1 + i = omega arith in
+    rw at (get-bits_from words (f + 1) n i (omega arith))
+
+-- lists with the same items at each place
+pub same_items : (xs ys : List Bool) → length xs ≡ length ys → ((i : ℕ) → i < length xs → get_or xs i false ≡ get_or ys i false) → xs ≡ ys
+same_items [] [] len at = refl
+same_items [] (y ∷ ys) len at = absurd (omega (arith, len))
+same_items (x ∷ xs) [] len at = absurd (omega (arith, len))
+same_items (x ∷ xs) (y ∷ ys) len at =
+    let head : x ≡ y = at 0 (omega arith) in
+    let tail = same_items xs ys (omega (arith, len)) (λ i lt. at (suc i) (omega arith)) in
+    cc
+
+-- a word that differs at one bit
+pub bits_of-set : (n : ℕ) (words : List ℕ) (f y : ℕ) (b : Bool) → f < n → HasRoom n words → (bit_at y (f % 64) == 1) ≡ b
+    → ((i : ℕ) → i < 64 → i ≢ f % 64 → bit_at y i ≡ bit_at (get_or words (f / 64) 0) i)
+    → bits_of n (set words (f / 64) y) ≡ set (bits_of n words) f b
+bits_of-set n words f y b within room here others =
+    let word : f / 64 < length words = omega (arith, room) in
+    let len = length-bits_from (set words (f / 64) y) 0 n in
+    let len_old = length-bits_from words 0 n in
+    let place : f < length (bits_of n words) = omega (arith, len_old) in
+    same_items _ _ (len ∙ (sym len_old ∙ sym (length-set (bits_of n words) f b))) (λ i lt.
+    let below : i < n = omega (arith, len) in
+    let at : 0 + i ≡ i = omega arith in
+    rw (get-bits_from (set words (f / 64) y) 0 n i below, at) (elim (cases_Bool (i == f)) [
+      | inl t ↦ rw (eqb-true i f t, get_or-set_same words (f / 64) y 0 word, get_or-set_same (bits_of n words) f b false place) here
+      | inr e ↦
+          let ne : i ≢ f = λ q. grind (arith, nat_tests, e, q) in
+          rw (get_or-set_other (bits_of n words) f i b false ne, get-bits_from words 0 n i below, at) (elim (cases_Bool (i / 64 == f / 64)) [
+            | inl t ↦
+                let q = eqb-true (i / 64) (f / 64) t in
+                let bit : i % 64 ≢ f % 64 = λ r. ne (omega (arith, q, r)) in
+                rw (q, get_or-set_same words (f / 64) y 0 word, others (i % 64) (omega arith) bit) refl
+            | inr u ↦
+                let apart : i / 64 ≢ f / 64 = λ q. grind (arith, nat_tests, u, q) in
+                rw (get_or-set_other words (f / 64) (i / 64) y 0 apart) refl
+          ])
+    ]))
+
+get_or-zeros : (k j : ℕ) → ◌≡◌ {A = ℕ} (get_or (replicate k 0) j 0) 0
+get_or-zeros zero j = refl
+get_or-zeros (suc k) zero = refl
+get_or-zeros (suc k) (suc j) = get_or-zeros k j
+
+-- no bit
+pub bits_from-zeros : (k f n : ℕ) → bits_from (replicate k 0) f n ≡ replicate n false
+bits_from-zeros k f zero = refl
+bits_from-zeros k f (suc n) =
+    let bit : has_bit (replicate k 0) f ≡ false = rw (get_or-zeros k (f / 64), bit_at-zero (f % 64)) refl in
+    rw (bit, bits_from-zeros k (f + 1) n) refl
+
+-- the word read
+pub item_at : (words : List ℕ) (k x : ℕ) → k < length words → x ≡ get_or words k x → x ≡ get_or words k 0
+item_at words k x lt e = e ∙ get_or_default_zero words k x lt
+
+pub tested : (words : List ℕ) (f x : ℕ) → f / 64 < length words → x ≡ get_or words (f / 64) x → (bit_and (x / 2 ^ (f % 64)) 1 == 1) ≡ has_bit words f
+tested words f x lt e = let low : bit_and (x / 2 ^ (f % 64)) 1 ≡ x / 2 ^ (f % 64) % 2 = and_mask (x / 2 ^ (f % 64)) 1 in
+    rw (low, ← item_at words (f / 64) x lt e) refl
+
+pub get-bits_of : (n : ℕ) (words : List ℕ) (f : ℕ) → f < n → get_or (bits_of n words) f false ≡ has_bit words f
+get-bits_of n words f lt =
+    let at : 0 + f ≡ f = omega arith in
+    rw at at (get-bits_from words 0 n f lt)

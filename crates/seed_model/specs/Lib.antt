@@ -1,0 +1,12 @@
+pub mod Best
+pub mod Bits
+pub mod Candidates
+pub mod Differences
+pub mod Files
+pub mod Numbers
+pub mod Masks
+pub mod Ranges
+pub mod SumLaws
+pub mod Sums
+pub mod TableInside
+pub mod Tables

@@ -1,0 +1,20 @@
+//! The planning problem: tables of classes, sets of files, their sums, and what is best among the sets in range; and
+//! how numbers are spelled.
+#![tactic(auto)]
+
+pub mod best;
+pub mod limits;
+pub mod memory;
+pub mod numbers;
+pub mod plan_set;
+pub mod range;
+pub mod sums;
+pub mod table;
+
+pub use best::try_all;
+pub use memory::NoMemory;
+pub use numbers::{number_laws, read_number, write_number};
+pub use plan_set::{PlanSet, first_difference};
+pub use range::{Range, range_of};
+pub use sums::{in_range, migrated, replicated, sum_laws, touched};
+pub use table::{Class, Table, Users};

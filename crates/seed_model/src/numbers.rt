@@ -1,0 +1,132 @@
+// Numbers in decimal.
+ghost use Rattle.std.specs.Prelude.{◌≡◌, ◌++◌, ◌<◌, ◌≤◌, ◌^◌, ℕ, drop, length, slice_index, IsTrue, ◌↔◌, IfSome, IfNone, OnOk, OnErr};
+ghost use Rattle.std.specs.Fmt.{decimal};
+ghost use Rattle.std.specs.Str.Parse.{AllDigits, digits_value};
+ghost use Rattle.seed_model.specs.Numbers.{SpelledApart, SpelledByNumerals};
+
+use crate::memory::NoMemory;
+
+/// The most digits of a number below 2^128.
+const MOST_DIGITS: usize = 39;
+
+/// Reads a number from 0 to `limit`, spelled in decimal with no sign and no leading zero. `None` where the text spells
+/// no such number.
+pub fn read_number(text: &[u8], limit: u128) -> Option<u128>
+    ensures found { IfSome result (λ n. (text.now ≡ decimal n) × (n ≤ limit)) }
+    ensures none { IfNone result ((n : ℕ) → text.now ≡ decimal n → limit < n) }
+{
+    if !is_led(text) {
+        return None;
+    }
+    let Some(number) = read_digits(text) else {
+        return None;
+    };
+    if number > limit {
+        return None;
+    }
+    Some(number)
+}
+
+// Whether the text has a first byte, which is a zero only where it is the last.
+fn is_led(text: &[u8]) -> bool
+    ensures { IsTrue result ↔ ((0 < length text.now) × (slice_index text.now 0 ≡ 48 → length text.now ≡ 1)) }
+{
+    text.len() == 1 || (text.len() > 1 && text[0] != b'0')
+}
+
+// The number that digits stand for, with any leading zeros.
+fn read_digits(text: &[u8]) -> Option<u128>
+    ensures found { IfSome result (λ n. AllDigits 10 text.now × (n ≡ digits_value 10 text.now)) }
+    ensures none { IfNone result (AllDigits 10 text.now → 2 ^ 128 ≤ digits_value 10 text.now) }
+{
+    let mut number: u128 = 0;
+    for byte in text {
+        if !byte.is_ascii_digit() {
+            return None;
+        }
+        let Some(tens) = number.checked_mul(10) else {
+            return None;
+        };
+        let Some(next) = tens.checked_add((*byte - b'0') as u128) else {
+            return None;
+        };
+        number = next;
+    }
+    Some(number)
+}
+
+/// Appends a number in decimal. On want of memory nothing is appended.
+pub fn write_number(n: u128, out: &mut Vec<u8>) -> Result<(), NoMemory>
+    ensures ok { OnOk result (out.new.items ≡ out.old.items ++ decimal n) }
+    ensures err { OnErr result (out.new.items ≡ out.old.items) }
+{
+    let mut digits = [0u8; MOST_DIGITS];
+    let start = write_digits(n, &mut digits);
+    let Ok(()) = out.extend_from_slice(&digits[start..]) else {
+        return Err(NoMemory);
+    };
+    Ok(())
+}
+
+// Puts a number in decimal at the end of the digits, and says where it begins.
+fn write_digits(n: u128, digits: &mut [u8; MOST_DIGITS]) -> usize
+    ensures within { result ≤ MOST_DIGITS }
+    ensures text { drop result digits.new ≡ decimal n }
+{
+    let mut start = MOST_DIGITS - 1;
+    let mut rest = n / 10;
+    digits[start] = b'0' + (n % 10) as u8;
+    while rest > 0 {
+        start -= 1;
+        digits[start] = b'0' + (rest % 10) as u8;
+        rest /= 10;
+    }
+    start
+}
+
+/// How numbers are spelled: no two alike, and just the numerals without a leading zero.
+pub fn number_laws()
+    ensures one_spelling { SpelledApart }
+    ensures form { SpelledByNumerals }
+{}
+
+#[cfg(test)]
+mod tests {
+    use super::*;
+    use std::test::Fail;
+
+    #[test]
+    fn reads_one_spelling_of_each_number(rt: HostRuntime) -> Result<(), Fail> {
+        let greatest = b"340282366920938463463374607431768211455";
+        let cases: [(&[u8], u128, Option<u128>); 13] = [
+            (b"0", 0, Some(0)),
+            (b"40", 40, Some(40)),
+            (b"40", 39, None),
+            (b"1024", u128::MAX, Some(1024)),
+            (b"", u128::MAX, None),
+            (b"00", u128::MAX, None),
+            (b"040", u128::MAX, None),
+            (b"4:", u128::MAX, None),
+            (b"+4", u128::MAX, None),
+            (b"4 ", u128::MAX, None),
+            (greatest, u128::MAX, Some(u128::MAX)),
+            (greatest, u128::MAX - 1, None),
+            (b"340282366920938463463374607431768211456", u128::MAX, None),
+        ];
+        for (text, limit, number) in cases {
+            assert_eq!(rt; read_number(text, limit), number);
+        }
+        Ok(())
+    }
+
+    #[test]
+    fn writes_behind_what_stands(rt: HostRuntime) -> Result<(), Fail> {
+        let mut out = Vec::new(rt.alloc());
+        out.push(b'=')?;
+        for number in [0u128, 7, 1024, u128::MAX] {
+            assert!(rt; write_number(number, &mut out).is_ok());
+        }
+        assert!(rt; out.as_slice() == b"=071024340282366920938463463374607431768211455".as_slice());
+        Ok(())
+    }
+}

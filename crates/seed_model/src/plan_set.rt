@@ -1,0 +1,104 @@
+// Sets of files, one bit a file.
+ghost use Rattle.std.specs.Prelude.{◌≡◌, ◌<◌, IfNone, IfOk, IfSome, slice_set, replicate, length, true, false};
+ghost use Rattle.seed_model.specs.Files.{holds};
+ghost use Rattle.seed_model.specs.Differences.{IsFirstDifference};
+
+use crate::memory::NoMemory;
+use std::alloc::Global;
+use std::marker::Model;
+
+/// A set of the files below a number: those that a plan moves, say.
+#[derive(Drop)]
+pub struct PlanSet {
+    files: u32,
+    words: Vec<u64>,
+}
+
+impl Model for PlanSet {
+    ghost use Rattle.std.specs.Prelude.{List, Bool};
+    ghost use Rattle.seed_model.specs.Bits.{bits_of, HasRoom};
+
+    ghost Value = { List Bool };
+
+    ghost view = { λ s. bits_of s.files s.words.items };
+
+    ghost invariant = { λ s. HasRoom s.files s.words.items };
+}
+
+impl PlanSet {
+    /// No file of `files` files.
+    ///
+    /// # Errors
+    ///
+    /// `NoMemory` where memory runs out.
+    pub fn empty(alloc: Global, files: u32) -> Result<Self, NoMemory>
+        ensures empty { IfOk result (λ s. s ≡ replicate files false) }
+    {
+        let count = files.div_ceil(64) as usize;
+        match vec![in alloc; 0u64; count] {
+            Ok(words) => Ok(PlanSet { files, words }),
+            Err(_) => Err(NoMemory),
+        }
+    }
+
+    /// The same set once more.
+    ///
+    /// # Errors
+    ///
+    /// `NoMemory` where memory runs out.
+    pub fn copy(&self) -> Result<Self, NoMemory>
+        ensures same { IfOk result (λ s. s ≡ self.now) }
+    {
+        let files = self.files;
+        match self.words.clone() {
+            Ok(words) => Ok(PlanSet { files, words }),
+            Err(_) => Err(NoMemory),
+        }
+    }
+
+    /// The number of files of which this is a set, in the set or not.
+    pub fn files(&self) -> u32
+        ensures { result ≡ length self.now }
+    {
+        self.files
+    }
+
+    /// Whether the file, a number from 0, is in the set.
+    pub fn contains(&self, file: u32) -> bool
+        requires { file < length self.now }
+        ensures { result ≡ holds self.now file }
+    {
+        let word = self.words[(file / 64) as usize];
+        word >> (file % 64) & 1 == 1
+    }
+
+    /// Adds the file; one that is in the set stays.
+    pub fn insert(&mut self, file: u32)
+        requires { file < length self.old }
+        ensures { self.new ≡ slice_set self.old file true }
+    {
+        self.words[(file / 64) as usize] |= 1 << (file % 64);
+    }
+
+    /// Takes the file out; nothing changes where it is not in the set.
+    pub fn remove(&mut self, file: u32)
+        requires { file < length self.old }
+        ensures { self.new ≡ slice_set self.old file false }
+    {
+        self.words[(file / 64) as usize] &= !(1 << (file % 64));
+    }
+}
+
+/// The first file that is in exactly one of two sets of the same number of files; None where the sets are equal.
+pub fn first_difference(one: &PlanSet, other: &PlanSet) -> Option<u32>
+    requires { length one.now ≡ length other.now }
+    ensures found { IfSome result (IsFirstDifference one.now other.now) }
+    ensures none { IfNone result (one.now ≡ other.now) }
+{
+    for file in 0..one.files() {
+        if one.contains(file) != other.contains(file) {
+            return Some(file);
+        }
+    }
+    None
+}
