@@ -1,0 +1,4 @@
+pub mod Ends
+pub mod Mark
+pub mod Next
+pub mod Written

@@ -1,0 +1,15 @@
+-- The text that a writer of csv has taken.
+use Rattle.std.specs.Prelude.{◌≡◌, ◌++◌, List, ℕ, false, Vec}
+use Rattle.csv.specs.Writing.{default_writer}
+use Rattle.csv.specs.declared.writer.Writer.{Writer}
+use Rattle.std.specs.declared.alloc.Global.{Global}
+
+-- the bytes that a writer over a vector has taken
+abbrev pub text_of : Writer (Vec ℕ Global) → List ℕ
+text_of w = w.wtr.inner.items ++ w.wtr.buf
+
+-- the default writer, between two rows
+pub record IsFresh (w : Writer (Vec ℕ Global)) : Type 0 where
+  pub setup : w.cfg ≡ default_writer
+  pub fields : w.fields ≡ 0
+  pub wrote : w.wrote ≡ false
