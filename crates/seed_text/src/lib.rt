@@ -1,0 +1,17 @@
+//! Texts of sets of files, one spelling for each set.
+#![tactic(auto)]
+
+ghost use Rattle.seed_text.specs.SetTexts.{OneSpelling};
+
+pub mod read;
+#[cfg(test)]
+mod tests;
+pub mod write;
+
+pub use read::read_set;
+pub use write::write_set;
+
+/// No two sets of as many files have one text.
+pub fn set_text_laws()
+    ensures one_spelling { OneSpelling }
+{}
