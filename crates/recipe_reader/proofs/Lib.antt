@@ -1,0 +1,17 @@
+pub mod Entries
+pub mod Fields
+pub mod Firsts
+pub mod Gathering
+pub mod Groups
+pub mod Keeping
+pub mod Numbers
+pub mod OneMeaning
+pub mod OnePairMore
+pub mod ReadBack
+pub mod Replaying
+pub mod RowsTaken
+pub mod SameAgain
+pub mod Sizes
+pub mod Subsets
+pub mod WrittenSpelled
+pub mod WrittenText

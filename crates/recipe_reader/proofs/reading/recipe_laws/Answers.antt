@@ -1,0 +1,11 @@
+use Rattle.recipe_reader.specs.Recipes.{empty_recipe}
+use Rattle.recipe_reader.proofs.Gathering.{gathered}
+use Rattle.recipe_reader.proofs.OneMeaning.{no_fault, one_recipe}
+use Rattle.recipe_reader.proofs.reading.recipe_laws.Goals as goal
+
+pub returns : goal.returns
+returns c = record {
+  gathered = gathered;
+  one = λ rows a b. one_recipe rows empty_recipe a b;
+  no_fault = λ rows recipe fault. no_fault rows empty_recipe recipe fault;
+}

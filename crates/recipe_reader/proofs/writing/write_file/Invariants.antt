@@ -1,0 +1,8 @@
+use Rattle.std.specs.Prelude.{map}
+use Rattle.std.proofs.Common.{◌≡◌, ◌++◌, take}
+use Rattle.csv_rows.specs.Rows.{rows_text}
+use Rattle.recipe_reader.specs.WrittenRows.{pair_row}
+use Rattle.recipe_reader.proofs.writing.write_file.Given as goal
+
+abbrev pub invariant-loop-chunk : goal.invariant-loop-chunk
+invariant-loop-chunk l = l.writer ≡ l.fn.writer ++ rows_text (map (pair_row l.recipe l.file) (take l.chunk-index l.chunks))

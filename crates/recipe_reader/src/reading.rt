@@ -1,0 +1,120 @@
+// Recipes from rows of text.
+ghost use Rattle.std.specs.Prelude.{◌≡◌, ◌≢◌, ◌≤◌, [], List, ℕ, length, slice_index_or, IfOk, IfErr, OnOk};
+ghost use Rattle.csv.specs.Records.{fields_of};
+ghost use Rattle.csv_rows.specs.Rows.{rows_of};
+ghost use Rattle.file_names.specs.FileNames.{IsFileName};
+ghost use Rattle.recipe_reader.specs.Appearance.{IsGathered};
+ghost use Rattle.recipe_reader.specs.Parts.{IsRowFault, fault_at, row_of};
+ghost use Rattle.recipe_reader.specs.Reading.{IsFault, IsFirstFault, Leads, MayFollow, TakesRow};
+ghost use Rattle.recipe_reader.specs.Recipes.{RecipeValue, empty_recipe};
+ghost use Rattle.recipe_reader.specs.Rows.{with_row};
+
+use crate::error::{AddError, GREATEST_SIZE, LONGEST_CHUNK_NAME, RecipeError};
+use crate::recipe::Recipe;
+use crate::row::{field, read_chunk_name, read_size};
+use csv::ByteRecord;
+use csv_rows::RowReader;
+use file_names::file_name_of;
+use std::alloc::Global;
+
+/// The recipe that the rows of a text lead to; or the first fault of the first row at fault. Each row is a file name, a
+/// chunk name in hex and a size in bytes.
+pub fn read_recipe(alloc: Global, text: &[u8]) -> Result<Recipe, RecipeError>
+    ensures recipe { IfOk result (λ r. Leads empty_recipe (rows_of text.now) r) }
+    ensures fault { IfErr result (λ e. e ≢ RecipeError.Memory → IsFirstFault empty_recipe (rows_of text.now) e) }
+{
+    let mut rows = RowReader::new(alloc, text);
+    let mut row = ByteRecord::new(alloc);
+    let mut recipe = Recipe::new(alloc);
+    for before in 0..u64::MAX {
+        let Ok(found) = rows.next_row(&mut row) else {
+            return Err(RecipeError::Memory);
+        };
+        if !found {
+            return Ok(recipe);
+        }
+        take_row(&mut recipe, before + 1, &row)?;
+    }
+    Err(RecipeError::Memory)
+}
+
+// Takes the row with this number.
+fn take_row(recipe: &mut Recipe, number: u64, row: &ByteRecord) -> Result<(), RecipeError>
+    ensures ok { OnOk result (TakesRow recipe.old (fields_of row.now) recipe.new) }
+    ensures fault { IfErr result (λ e. e ≢ RecipeError.Memory → IsFault recipe.old number (fields_of row.now) e) }
+{
+    if row.len() != 3 {
+        return Err(RecipeError::BadRow { row: number });
+    }
+    let Some(file) = file_name_of(field(row, 0)) else {
+        return Err(RecipeError::BadName { row: number });
+    };
+    let text = field(row, 1);
+    let Some(name) = read_chunk_name(text) else {
+        return Err(RecipeError::BadChunkName { row: number });
+    };
+    let Some(size) = read_size(text, field(row, 2)) else {
+        return Err(RecipeError::BadSize { row: number });
+    };
+    add_row(recipe, number, file, name.as_slice(), size)
+}
+
+// Adds what a row says: a file, and that it uses a chunk, if one is named.
+fn add_row(
+    recipe: &mut Recipe,
+    number: u64,
+    file: &str,
+    name: &[u8],
+    size: u64,
+) -> Result<(), RecipeError>
+    requires file { IsFileName file.now }
+    requires name { length name.now ≤ LONGEST_CHUNK_NAME }
+    requires size { size ≤ GREATEST_SIZE }
+    ensures ok { OnOk result (recipe.new ≡ with_row recipe.old (row_of file.now name.now size)) }
+    ensures follows { OnOk result (MayFollow recipe.old (row_of file.now name.now size)) }
+    ensures fault { IfErr result (λ e. e ≢ RecipeError.Memory → IsRowFault recipe.old number (row_of file.now name.now size) e) }
+{
+    let file = match recipe.add_file(file) {
+        Ok(file) => file,
+        Err(fault) => {
+            if let Some(first) = recipe.other_size(name, size) {
+                return Err(RecipeError::SizeClash {
+                    row: number,
+                    first,
+                    now: size,
+                });
+            }
+            return Err(at_row(number, fault));
+        }
+    };
+    if name.is_empty() {
+        return Ok(());
+    }
+    match recipe.add_pair(file, name, size) {
+        Ok(()) => Ok(()),
+        Err(fault) => Err(at_row(number, fault)),
+    }
+}
+
+/// What rows that lead to a recipe make of it: its files, chunks and pairs are those that the rows name, by first
+/// appearance, and each row has its chunk's size. Rows lead to one recipe, and then have no fault.
+pub fn recipe_laws()
+    ensures gathered { (rows : List (List (List ℕ))) (recipe : RecipeValue) → Leads empty_recipe rows recipe → IsGathered rows recipe }
+    ensures one { (rows : List (List (List ℕ))) (a b : RecipeValue) → Leads empty_recipe rows a → Leads empty_recipe rows b → a ≡ b }
+    ensures no_fault { (rows : List (List (List ℕ))) (recipe : RecipeValue) (fault : RecipeError) → Leads empty_recipe rows recipe → ¬ IsFirstFault empty_recipe rows fault }
+{}
+
+// The fault of the row with this number.
+fn at_row(number: u64, fault: AddError) -> RecipeError
+    ensures { result ≡ fault_at number fault }
+{
+    match fault {
+        AddError::Clash { first, now } => RecipeError::SizeClash {
+            row: number,
+            first,
+            now,
+        },
+        AddError::TooMany(what) => RecipeError::TooMany { row: number, what },
+        AddError::Memory => RecipeError::Memory,
+    }
+}

@@ -1,0 +1,109 @@
+// Worked texts, with the values that stand in the format's description.
+use crate::{AddError, Recipe, RecipeError, read_recipe, write_recipe};
+use file_names::is_file_name;
+use std::alloc::Global;
+use std::test::Fail;
+
+fn fault_of(alloc: Global, text: &[u8]) -> Option<RecipeError> {
+    match read_recipe(alloc, text) {
+        Ok(_) => None,
+        Err(fault) => Some(fault),
+    }
+}
+
+#[test]
+fn reads_files_chunks_and_pairs(rt: HostRuntime) -> Result<(), Fail> {
+    let text = b"a,01,10\na,02,20\nb,01,10\nb,03,30\nb,05,7\nc,04,5\nc,05,7\n";
+    let recipe = read_recipe(rt.alloc(), text.as_slice())?;
+    assert_eq!(rt; recipe.total(), 72);
+    let pairs = [(0, 0), (0, 1), (1, 0), (1, 2), (1, 3), (2, 4), (2, 3)];
+    assert_eq!(rt; recipe.pairs(), pairs.as_slice());
+    assert_eq!(rt; recipe.files(), 3);
+    assert_eq!(rt; recipe.file_name(2), "c");
+    assert_eq!(rt; recipe.chunks(), 5);
+    assert_eq!(rt; recipe.chunk_name(3), [5].as_slice());
+    assert_eq!(rt; recipe.size(4), 5);
+    Ok(())
+}
+
+#[test]
+fn counts_each_file_chunk_and_pair_once(rt: HostRuntime) -> Result<(), Fail> {
+    let cases = [
+        (b"".as_slice(), (0, 0, 0, 0)),
+        (
+            b"a,01,10\na,01,10\ne,,0\nb,01,10\n".as_slice(),
+            (3, 1, 2, 10),
+        ),
+        (b"\"a,b\",0A,5\n\"a,b\",0a,5\n".as_slice(), (1, 1, 1, 5)),
+    ];
+    for (text, want) in cases {
+        let recipe = read_recipe(rt.alloc(), text)?;
+        let found = (
+            recipe.files(),
+            recipe.chunks(),
+            recipe.pairs().len(),
+            recipe.total(),
+        );
+        assert_eq!(rt; found, want);
+    }
+    Ok(())
+}
+
+#[test]
+fn names_the_first_fault(rt: HostRuntime) {
+    let clash = RecipeError::SizeClash {
+        row: 2,
+        first: 10,
+        now: 11,
+    };
+    let cases = [
+        (b"a,01,10\nb,01,11\n".as_slice(), clash),
+        (b"a,01\n".as_slice(), RecipeError::BadRow { row: 1 }),
+        (b",01,1\n".as_slice(), RecipeError::BadName { row: 1 }),
+        (b"a,0,1\n".as_slice(), RecipeError::BadChunkName { row: 1 }),
+        (b"a,01,\n".as_slice(), RecipeError::BadSize { row: 1 }),
+        (b"a,,0\na,,1\n".as_slice(), RecipeError::BadSize { row: 2 }),
+    ];
+    for (text, want) in cases {
+        assert_eq!(rt; fault_of(rt.alloc(), text), Some(want));
+    }
+}
+
+#[test]
+fn adds_files_and_pairs(rt: HostRuntime) -> Result<(), Fail> {
+    let mut recipe = Recipe::new(rt.alloc());
+    assert!(rt; is_file_name("x"));
+    assert_eq!(rt; recipe.add_file("x"), Ok(0));
+    assert_eq!(rt; recipe.files(), 1);
+    assert_eq!(rt; recipe.add_pair(0, &[1, 2], 4), Ok(()));
+    assert_eq!(rt; recipe.files(), 1);
+    assert_eq!(rt;
+        recipe.add_pair(0, &[1, 2], 5),
+        Err(AddError::Clash { first: 4, now: 5 })
+    );
+    assert_eq!(rt; recipe.total(), 4);
+    Ok(())
+}
+
+#[test]
+fn writes_file_by_file(rt: HostRuntime) -> Result<(), Fail> {
+    let shared = b"a,01,10\na,02,20\nb,01,10\nb,03,30\nb,05,7\nc,04,5\nc,05,7\n".as_slice();
+    let cases = [
+        (b"".as_slice(), b"".as_slice()),
+        (shared, shared),
+        (
+            b"\"a,b\",0A,5\n\"a,b\",0a,5\n".as_slice(),
+            b"\"a,b\",0a,5\n".as_slice(),
+        ),
+        (
+            b"b,02,1\ne,,0\na,01,2\nb,01,2\n".as_slice(),
+            b"b,02,1\nb,01,2\ne,,0\na,01,2\n".as_slice(),
+        ),
+    ];
+    for (text, want) in cases {
+        let recipe = read_recipe(rt.alloc(), text)?;
+        let written = write_recipe(rt.alloc(), &recipe)?;
+        assert_eq!(rt; written.as_slice(), want);
+    }
+    Ok(())
+}
