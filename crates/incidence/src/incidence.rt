@@ -1,0 +1,102 @@
+// The users of chunks and the chunks of files.
+ghost use Rattle.std.specs.Prelude.{◌≡◌, ◌<◌, [], length, IfOk, map, slice_index, slice_index_or};
+ghost use Rattle.recipe_reader.specs.Recipes.{users_of, chunks_of};
+ghost use Rattle.incidence.specs.Incidences.{IsIncidence, incidence_of};
+
+use crate::by_key::by_key;
+use crate::rows::Rows;
+use recipe_reader::Recipe;
+use seed_model::NoMemory;
+use std::alloc::Global;
+use std::marker::Model;
+
+/// The size and the users of each chunk, and the chunks of each file.
+#[derive(Drop)]
+pub struct Incidence {
+    sizes: Vec<u64>,
+    users: Rows,
+    chunks: Rows,
+}
+
+impl Model for Incidence {
+    ghost use Rattle.incidence.specs.Incidences.{IncidenceValue, incidence_code};
+    ghost use Rattle.incidence.specs.Inside.{view_of, KeepsIncidence};
+
+    ghost Value = { IncidenceValue };
+
+    ghost coded = { incidence_code };
+
+    ghost view = { view_of };
+
+    ghost invariant = { KeepsIncidence };
+}
+
+impl Incidence {
+    /// The incidence of a recipe, in time linear in its pairs.
+    pub fn of(alloc: Global, recipe: &Recipe) -> Result<Incidence, NoMemory>
+        ensures { IfOk result (λ incidence. incidence ≡ incidence_of recipe.now) }
+    {
+        let sizes = sizes_of(alloc, recipe)?;
+        let named = by_key(alloc, recipe.pairs(), recipe.files())?;
+        let by_file = named.with_numbers(alloc)?;
+        let users = by_key(alloc, &by_file, recipe.chunks())?;
+        let by_chunk = users.with_numbers(alloc)?;
+        let chunks = by_key(alloc, &by_chunk, recipe.files())?;
+        Ok(Incidence {
+            sizes,
+            users,
+            chunks,
+        })
+    }
+
+    /// How many files there are.
+    pub fn files(&self) -> u32
+        ensures files { result ≡ length self.now.chunks }
+        ensures incidence { IsIncidence self.now }
+    {
+        self.chunks.len()
+    }
+
+    /// How many chunks there are.
+    pub fn chunk_count(&self) -> u32
+        ensures chunks { result ≡ length self.now.users }
+        ensures incidence { IsIncidence self.now }
+    {
+        self.users.len()
+    }
+
+    /// The size of a chunk in bytes.
+    pub fn size(&self, chunk: u32) -> u64
+        requires { chunk < length self.now.users }
+        ensures { result ≡ slice_index self.now.sizes chunk }
+    {
+        self.sizes[chunk as usize]
+    }
+
+    /// The files that use a chunk, by number in strictly rising order.
+    pub fn users(&self, chunk: u32) -> &[u32]
+        requires { chunk < length self.now.users }
+        ensures { result.now ≡ slice_index_or self.now.users chunk [] }
+    {
+        self.users.row(chunk)
+    }
+
+    /// The chunks that a file uses, by number in strictly rising order.
+    pub fn chunks(&self, file: u32) -> &[u32]
+        requires { file < length self.now.chunks }
+        ensures { result.now ≡ slice_index_or self.now.chunks file [] }
+    {
+        self.chunks.row(file)
+    }
+}
+
+/// The sizes of the chunks, in order.
+fn sizes_of(alloc: Global, recipe: &Recipe) -> Result<Vec<u64>, NoMemory>
+    ensures { IfOk result (λ sizes. sizes.items ≡ map (λ c. c.size) recipe.now.chunks) }
+{
+    let mut sizes = Vec::with_capacity(alloc, recipe.chunks() as usize)?;
+    for chunk in 0..recipe.chunks() {
+        sizes.push(recipe.size(chunk))?;
+    }
+    Ok(sizes)
+}
