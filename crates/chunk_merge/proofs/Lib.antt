@@ -1,0 +1,4 @@
+pub mod Best
+pub mod Folded
+pub mod Lists
+pub mod Merging
