@@ -1,0 +1,10 @@
+pub mod Balance
+pub mod Carrying
+pub mod Counts
+pub mod Cutting
+pub mod Placing
+pub mod Powering
+pub mod Queue
+pub mod Ready
+pub mod Searching
+pub mod Trailing

@@ -1,0 +1,18 @@
+use Rattle.std.proofs.Common.{length}
+use Rattle.flow_net.specs.Levels.{level_of}
+use Rattle.flow_net.specs.Trails.{HaveWays}
+use Rattle.flow_net.proofs.Trailing.{Trailing, to_try}
+use Rattle.flow_net.proofs.trails.find_path.Given as goal
+
+-- a trail leads from the node to the sink, and no way was lost
+abbrev pub invariant-loop-node : goal.invariant-loop-node
+invariant-loop-node l =
+    record {
+      state : Trailing l.net l.rows l.filling.amounts l.power l.levels l.sink l.next l.path l.node;
+      ways :
+          HaveWays l.net.pipes l.filling.amounts l.power l.levels l.rows l.net.nodes l.source l.fn.next →
+          HaveWays l.net.pipes l.filling.amounts l.power l.levels l.rows l.net.nodes l.source l.next;
+    }
+
+abbrev pub decreases-loop-node : goal.decreases-loop-node
+decreases-loop-node l = to_try (length l.rows.links.items) l.next (length l.path) (level_of l.levels l.node)

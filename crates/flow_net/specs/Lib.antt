@@ -1,0 +1,9 @@
+pub mod Cuts
+pub mod Flows
+pub mod Levels
+pub mod Links
+pub mod Moves
+pub mod Nets
+pub mod Paths
+pub mod Pushes
+pub mod Trails

@@ -1,0 +1,44 @@
+use Rattle.std.specs.Prelude.{◌≡◌, ◌≢◌, ℕ, ◌+◌, ◌<◌, ◌≤◌, false, not, List, [], ◌∷◌, length, slice_index, slice_index_or}
+use Rattle.flow_net.specs.declared.pipes.Pipe.{Pipe}
+use Rattle.flow_net.specs.declared.pipes.Use.{Use}
+use Rattle.flow_net.specs.declared.links.Link.{Link}
+use Rattle.flow_net.specs.declared.links.Rows.{Rows}
+use Rattle.flow_net.specs.Paths.{left_on, end_of, IsPath, HaveLeft}
+use Rattle.flow_net.specs.Links.{use_of, link_at, row_of}
+use Rattle.flow_net.specs.Levels.{level_of, IsReached}
+
+-- the use against a link leads from one level below with enough left
+pub record IsGood (pipes : List Pipe) (amounts : List ℕ) (power : ℕ) (levels : List ℕ) (level : ℕ) (link : Link) : Type 0 where
+  pub lower : level_of levels link.far + 1 ≡ level
+  pub left : power ≤ left_on pipes amounts (use_of link.pipe (not link.back))
+
+-- each use ends one level above where it begins
+abbrev pub Rises : List Pipe → List ℕ → ℕ → List Use → Type 0
+Rises pipes levels level [] = Unit {0}
+Rises pipes levels level (u ∷ us) = (level_of levels (end_of pipes u) ≡ level + 1) × Rises pipes levels (level + 1) us
+
+-- a path along rising levels with enough left
+pub record IsTrail (pipes : List Pipe) (amounts : List ℕ) (power : ℕ) (levels : List ℕ) (from to : ℕ) (path : List Use) : Type 0 where
+  pub leads : IsPath pipes from to path
+  pub rises : Rises pipes levels (level_of levels from) path
+  pub left : HaveLeft pipes amounts power path
+
+-- no pointer is past the end of its row
+abbrev pub AreBounded : ℕ → Rows → List ℕ → Type 0
+AreBounded nodes rows next = (v : ℕ) → v < nodes → slice_index next v ≤ length (row_of rows v)
+
+-- a link from the pointer on by which a node can be reached
+pub record HasWay (pipes : List Pipe) (amounts : List ℕ) (power : ℕ) (levels : List ℕ) (row : List Link) (level from : ℕ) : Type 0 where
+  pub place : ℕ
+  pub behind : from ≤ place
+  pub within : place < length row
+  pub good : IsGood pipes amounts power levels level (link_at row place)
+
+-- each node that was reached has such a link
+abbrev pub HaveWays : List Pipe → List ℕ → ℕ → List ℕ → Rows → ℕ → ℕ → List ℕ → Type 0
+HaveWays pipes amounts power levels rows nodes source next =
+    (v : ℕ) → v < nodes → IsReached levels v → v ≢ source →
+    HasWay pipes amounts power levels (row_of rows v) (level_of levels v) (slice_index next v)
+
+abbrev pub use_at : List Use → ℕ → Use
+use_at path k = slice_index_or path k (record { pipe = 0; back = false })

@@ -1,0 +1,22 @@
+//! Greatest flows in nets of pipes, and the smallest and largest source sides of the cuts that bound them.
+#![tactic(auto)]
+
+pub mod amounts;
+pub mod counter;
+pub mod cuts;
+mod levels;
+mod links;
+pub mod network;
+mod phases;
+pub mod pipes;
+mod powers;
+mod trails;
+
+pub use amounts::Filling;
+pub use counter::Steps;
+pub use cuts::{FlowCut, max_flow};
+pub use network::Net;
+pub use pipes::{Pipe, Use};
+
+#[cfg(test)]
+mod tests;
