@@ -1,0 +1,9 @@
+pub mod Edits
+pub mod Marks
+pub mod MemCalls
+pub mod Mirror
+pub mod Moments
+pub mod Picked
+pub mod Ranges
+pub mod Recording
+pub mod Rest

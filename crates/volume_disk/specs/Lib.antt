@@ -1,0 +1,10 @@
+pub mod Device
+pub mod Disk
+pub mod Edited
+pub mod Medium
+pub mod Memory
+pub mod Picks
+pub mod Record
+pub mod RecordLaws
+pub mod Sound
+pub mod Time

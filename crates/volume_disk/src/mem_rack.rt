@@ -1,0 +1,243 @@
+// A rack in memory, that fails where it is told to and can be crashed.
+ghost use Rattle.std.specs.Prelude.{◌≡◌, ◌≤◌, ℕ, ◌+◌, [], true, None, Some, IfOk, OnSome, IfSome, is_err, length, if◌then◌else◌};
+ghost use Rattle.std.specs.Io.{ReadsAtMost};
+ghost use Rattle.fault_count.specs.Counts.{HasCause};
+ghost use Rattle.volume_disk.specs.Medium.{at_rest, IsAtRest};
+ghost use Rattle.volume_disk.specs.Disk.{SameDisk, SameElsewhere, Crash, Gives, Writes, Cuts, Syncs};
+ghost use Rattle.volume_disk.specs.Time.{Elapses};
+ghost use Rattle.volume_disk.specs.Record.{Step, Recorded, FitsCall, FitsWrite, disk_of, LeftSince, with_step, with_image, blank_record, Crashes};
+ghost use Rattle.volume_disk.specs.Record.Step.{Writing, Cutting, Syncing};
+ghost use Rattle.volume_disk.specs.Memory.{Calls, with_look};
+ghost use Rattle.volume_disk.specs.declared.rack.RackError.TheVariants.{Fault};
+
+use crate::recorded::RecordedDevices;
+use crate::turn::{Turn, next_turn};
+use crate::{Pick, Rack, RackError};
+use fault_count::FaultPlan;
+use std::alloc::Global;
+use std::marker::Model;
+
+/// Six honest devices in memory. All their memory is taken when they are made.
+#[derive(Drop)]
+pub struct MemRack {
+    devices: RecordedDevices,
+    plan: FaultPlan,
+    stop: Option<u64>,
+}
+
+impl Model for MemRack {
+    ghost use Rattle.volume_disk.specs.Memory.{MemState};
+
+    ghost Value = { MemState };
+
+    ghost view = { λ r. record { devices = r.devices; plan = r.plan; stop = r.stop } };
+}
+
+impl MemRack {
+    /// Six empty devices with room for `room` bytes each, on which nothing is pending, and room for a record of `calls`
+    /// calls that wrote `written` bytes together; the calls whose numbers are listed will fail. None is want of memory.
+    pub fn new(
+        alloc: Global,
+        room: usize,
+        calls: usize,
+        written: usize,
+        fails: Vec<u64>,
+    ) -> Option<Self>
+        ensures state { IfSome result (λ r. r ≡ record { devices = blank_record room calls written; plan = record { fails = fails.items; calls = 0; faults = 0 }; stop = None }) }
+        ensures rest { IfSome result (λ r. (dev : ℕ) → dev ≤ 5 → disk_of r.devices dev ≡ at_rest []) }
+    {
+        let devices = RecordedDevices::new(alloc, room, calls, written).ok()?;
+        Some(MemRack {
+            devices,
+            plan: FaultPlan::new(fails),
+            stop: None,
+        })
+    }
+
+    /// Makes the call of this number and all later ones fail, each after it was done.
+    pub fn stop_at(&mut self, call: u64)
+        ensures { self.new ≡ record self.old { stop = Some call } }
+    {
+        self.stop = Some(call);
+    }
+
+    /// Puts each device into the crash image of a pick, clears the stop and begins a clean record.
+    pub fn crash(&mut self, pick: Pick)
+        ensures devices { Crashes pick self.old.devices self.new.devices }
+        ensures left { Crash (disk_of self.old.devices) (λ dev. (disk_of self.new.devices dev).image) }
+        ensures rest { (dev : ℕ) → IsAtRest (disk_of self.new.devices dev) }
+        ensures plan { self.new.plan ≡ self.old.plan }
+        ensures stop { self.new.stop ≡ None }
+    {
+        self.devices.crash(pick);
+        self.stop = None;
+    }
+
+    /// The bytes of a device, as a read gives them.
+    pub fn image(&self, dev: u8) -> &[u8]
+        requires { dev ≤ 5 }
+        ensures { result.now ≡ (disk_of self.now.devices dev).image }
+    {
+        self.devices.image(dev)
+    }
+
+    /// Gives a device other bytes, with nothing pending on it. The others stay as they are, with what is pending there.
+    pub fn set_image(&mut self, dev: u8, bytes: &[u8])
+        requires is_device { dev ≤ 5 }
+        requires room { length bytes.now ≤ self.old.devices.room }
+        ensures state { self.new ≡ record self.old { devices = with_image self.old.devices dev bytes.now } }
+        ensures rest { disk_of self.new.devices dev ≡ at_rest bytes.now }
+        ensures others { SameElsewhere dev (disk_of self.old.devices) (disk_of self.new.devices) }
+    {
+        self.devices.set_image(dev, bytes);
+    }
+
+    /// Counts a call that changes no device.
+    fn look(&mut self) -> Result<(), RackError>
+        ensures { Calls self.old self.new (FitsCall self.old.devices) with_look (is_err result) }
+    {
+        let fits = self.devices.has_call();
+        let turn = next_turn(&mut self.plan, self.stop, fits);
+        if let Turn::Refused = turn {
+            return Err(RackError::Fault);
+        }
+        self.devices.look();
+        turn.answer()
+    }
+    /// Counts a write, and does it where it fits.
+    fn write_counted(&mut self, dev: u8, at: u64, bytes: &[u8]) -> Result<(), RackError>
+        requires { dev ≤ 5 }
+        ensures { Calls self.old self.new (FitsWrite self.old.devices at (length bytes.now)) (λ r. with_step r (Writing dev at bytes.now) (length bytes.now)) (is_err result) }
+    {
+        let fits = self.devices.has_room(at, bytes.len());
+        let turn = next_turn(&mut self.plan, self.stop, fits);
+        if let Turn::Refused = turn {
+            return Err(RackError::Fault);
+        }
+        self.devices.write(dev, at, bytes);
+        turn.answer()
+    }
+
+    /// Counts a cut, and does it where it fits.
+    fn cut_counted(&mut self, dev: u8, len: u64) -> Result<(), RackError>
+        requires { dev ≤ 5 }
+        ensures { Calls self.old self.new (FitsCall self.old.devices) (λ r. with_step r (Cutting dev len) 0) (is_err result) }
+    {
+        let fits = self.devices.has_call();
+        let turn = next_turn(&mut self.plan, self.stop, fits);
+        if let Turn::Refused = turn {
+            return Err(RackError::Fault);
+        }
+        self.devices.cut(dev, len);
+        turn.answer()
+    }
+
+    /// Counts a sync, and does it where it fits and doesn't fail.
+    fn sync_counted(&mut self, dev: u8) -> Result<(), RackError>
+        requires { dev ≤ 5 }
+        ensures { Calls self.old self.new (FitsCall self.old.devices) (λ r. if is_err result then with_look r else with_step r (Syncing dev) 0) (is_err result) }
+    {
+        let fits = self.devices.has_call();
+        let turn = next_turn(&mut self.plan, self.stop, fits);
+        match turn {
+            Turn::Refused => Err(RackError::Fault),
+            Turn::Fails => {
+                self.devices.look();
+                Err(RackError::Fault)
+            }
+            Turn::Runs => {
+                self.devices.sync(dev);
+                Ok(())
+            }
+        }
+    }
+}
+
+/// Copies bytes from a place on, as many as there is room for, and answers how many.
+fn copy_from(image: &[u8], at: u64, into: &mut [u8]) -> usize
+    ensures bound { result ≤ length into.new }
+    ensures gives { Gives image.now at into.new result }
+{
+    let start = (at.min(image.len() as u64)) as usize;
+    let rest = &image[start..];
+    let count = rest.len().min(into.len());
+    into[..count].copy_from_slice(&rest[..count]);
+    count
+}
+
+impl Rack for MemRack {
+    ghost use Rattle.std.specs.Prelude.{true};
+    ghost use Rattle.volume_disk.specs.Record.{disk_of, LeftSince};
+    ghost use Rattle.volume_disk.specs.RecordLaws as laws;
+
+    ghost honest = { λ r. true };
+
+    ghost faults = { λ r. r.plan.faults };
+
+    ghost disk = { λ r. disk_of r.devices };
+
+    ghost moment = { λ r. r.devices.moment };
+
+    ghost left_since = { λ r. LeftSince r.devices };
+
+    ghost counts_now = { λ r t c honest le crash. laws.counts_now r.devices t c le crash };
+
+    ghost only_now = { λ r c honest left. laws.only_now r.devices c left };
+
+    ghost reads_alike = { λ r dev honest. laws.reads_alike r.devices dev };
+
+    fn size(&mut self, dev: u8) -> Result<u64, RackError>
+        requires { dev ≤ 5 }
+        ensures calls { Calls self.old self.new (FitsCall self.old.devices) with_look (is_err result) }
+        ensures cause { HasCause Fault self.old.plan.faults self.new.plan.faults result }
+        ensures value { IfOk result (λ n. n ≡ length (disk_of self.old.devices dev).image) }
+        ensures same { SameDisk (disk_of self.old.devices) (disk_of self.new.devices) }
+        ensures time { Elapses self.old.devices.moment self.new.devices.moment (LeftSince self.old.devices) (LeftSince self.new.devices) (Crash (disk_of self.new.devices)) }
+    {
+        self.look()?;
+        Ok(self.devices.image(dev).len() as u64)
+    }
+
+    fn read(&mut self, dev: u8, at: u64, into: &mut [u8]) -> Result<usize, RackError>
+        requires { dev ≤ 5 }
+        ensures calls { Calls self.old self.new (FitsCall self.old.devices) with_look (is_err result) }
+        ensures bound { ReadsAtMost result into.new }
+        ensures cause { HasCause Fault self.old.plan.faults self.new.plan.faults result }
+        ensures bytes { IfOk result (Gives (disk_of self.old.devices dev).image at into.new) }
+        ensures same { SameDisk (disk_of self.old.devices) (disk_of self.new.devices) }
+        ensures time { Elapses self.old.devices.moment self.new.devices.moment (LeftSince self.old.devices) (LeftSince self.new.devices) (Crash (disk_of self.new.devices)) }
+    {
+        self.look()?;
+        Ok(copy_from(self.devices.image(dev), at, into))
+    }
+
+    fn write(&mut self, dev: u8, at: u64, bytes: &[u8]) -> Result<(), RackError>
+        requires { dev ≤ 5 }
+        ensures calls { Calls self.old self.new (FitsWrite self.old.devices at (length bytes.now)) (λ r. with_step r (Writing dev at bytes.now) (length bytes.now)) (is_err result) }
+        ensures cause { HasCause Fault self.old.plan.faults self.new.plan.faults result }
+        ensures disk { Writes dev at bytes.now (disk_of self.old.devices) (disk_of self.new.devices) result }
+        ensures time { Elapses self.old.devices.moment self.new.devices.moment (LeftSince self.old.devices) (LeftSince self.new.devices) (Crash (disk_of self.new.devices)) }
+    {
+        self.write_counted(dev, at, bytes)
+    }
+
+    fn cut(&mut self, dev: u8, len: u64) -> Result<(), RackError>
+        requires { dev ≤ 5 }
+        ensures calls { Calls self.old self.new (FitsCall self.old.devices) (λ r. with_step r (Cutting dev len) 0) (is_err result) }
+        ensures cause { HasCause Fault self.old.plan.faults self.new.plan.faults result }
+        ensures disk { Cuts dev len (disk_of self.old.devices) (disk_of self.new.devices) result }
+        ensures time { Elapses self.old.devices.moment self.new.devices.moment (LeftSince self.old.devices) (LeftSince self.new.devices) (Crash (disk_of self.new.devices)) }
+    {
+        self.cut_counted(dev, len)
+    }
+
+    fn sync(&mut self, dev: u8) -> Result<(), RackError>
+        requires { dev ≤ 5 }
+        ensures calls { Calls self.old self.new (FitsCall self.old.devices) (λ r. if is_err result then with_look r else with_step r (Syncing dev) 0) (is_err result) }
+        ensures cause { HasCause Fault self.old.plan.faults self.new.plan.faults result }
+        ensures disk { Syncs dev (disk_of self.old.devices) (disk_of self.new.devices) result }
+        ensures time { Elapses self.old.devices.moment self.new.devices.moment (LeftSince self.old.devices) (LeftSince self.new.devices) (Crash (disk_of self.new.devices)) }
+    {
+        self.sync_counted(dev)
+    }
+}
