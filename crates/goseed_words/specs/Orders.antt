@@ -1,0 +1,32 @@
+-- What words mean: an order, or why none.
+use Rattle.std.specs.Prelude.{◌≡◌, ℕ, ◌+◌, List, [], ◌∷◌, codes, map, String, string_bytes, Result, Ok, Err}
+use Rattle.std.specs.declared.alloc.Global.{Global}
+use Rattle.goseed_words.specs.declared.order.Order.{Order}
+use Rattle.goseed_words.specs.declared.order.Order.TheVariants.{Best}
+use Rattle.goseed_words.specs.declared.order.WordError.{WordError}
+use Rattle.goseed_words.specs.declared.order.WordError.TheVariants.{Usage, BadWord}
+use Rattle.goseed_words.specs.Amounts.{SpellsAmount, IsAmount}
+use Rattle.goseed_words.specs.Commands.{Operand, IsRow, IsFirstBad}
+
+-- the words' bytes
+abbrev pub texts : List (String Global) → List (List ℕ)
+texts words = map string_bytes words
+
+-- the words spell the order
+abbrev pub SpellsOrder : List (List ℕ) → Order → Type 0
+SpellsOrder words (Best recipe target slack) =
+    (t : List ℕ) × (s : List ℕ) × (words ≡ codes "best" ∷ recipe.now ∷ t ∷ s ∷ []) × SpellsAmount t target × SpellsAmount s slack
+
+-- the operands are within their ranges
+abbrev pub IsLawful : Order → Type 0
+IsLawful (Best recipe target slack) = IsAmount target × IsAmount slack
+
+-- usage: no row of the table fits; a bad word: a row fits, and this is the first word that is not spelled as it must be
+abbrev pub IsWordFault : List (List ℕ) → WordError → Type 0
+IsWordFault words Usage = (operands : List Operand) → ¬ IsRow words operands
+IsWordFault words (BadWord place) = (operands : List Operand) × (row : IsRow words operands) × (k : ℕ) × (place ≡ k + 2) × IsFirstBad operands row.rest k
+
+-- what the words mean
+abbrev pub Mean : List (List ℕ) → Result Order WordError → Type 0
+Mean words (Ok order) = SpellsOrder words order
+Mean words (Err error) = IsWordFault words error

@@ -1,0 +1,8 @@
+//! The words of a command line, and the order that they mean.
+#![tactic(auto)]
+
+pub mod amount;
+pub mod order;
+
+pub use amount::Amount;
+pub use order::{Order, WordError, order_of};
