@@ -1,0 +1,5 @@
+pub mod BestLemmas
+pub mod CauseLemmas
+pub mod RefusalLemmas
+pub mod RunLemmas
+pub mod TextLemmas

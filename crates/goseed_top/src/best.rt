@@ -1,0 +1,113 @@
+// The command `best`.
+ghost use Rattle.std.specs.Prelude.{◌≡◌, ◌≤◌, length, IfOk};
+ghost use Rattle.seed_model.specs.Ranges.{range_around, IsRange};
+ghost use Rattle.fault_count.specs.Counts.{HasCause};
+ghost use Rattle.recipe_reader.specs.Lawful.{IsRecipe};
+ghost use Rattle.goseed_words.specs.Amounts.{IsAmount, amount_in};
+ghost use Rattle.goseed_top.specs.Best.{BestEnds, BestOver, TriesAll};
+ghost use Rattle.goseed_top.specs.Endings.{Over};
+
+use crate::limits::MOST_RECIPE_BYTES;
+use crate::merged_table::merged_table;
+use crate::refusal::Refusal;
+use crate::report::{Halt, Report, or_halt, refused};
+use crate::status::Status;
+use crate::text::{text_of_best, text_of_none};
+use goseed_words::Amount;
+use recipe_reader::{Recipe, RecipeError, read_recipe};
+use seed_io::{ReadError, Shelf, read_all};
+use seed_model::limits::{MOST_BYTES, MOST_TRIED_FILES};
+use seed_model::{NoMemory, Range, range_of, try_all};
+use std::alloc::Global;
+
+/// Reads a recipe by its name, and finds the best set of its files.
+pub(crate) fn best<F: Shelf>(
+    alloc: Global,
+    shelf: &mut F,
+    name: &str,
+    target: Amount,
+    slack: Amount,
+) -> Result<Report, Halt>
+    requires target { IsAmount target }
+    requires slack { IsAmount slack }
+    ensures report { IfOk result (λ report. Over (F.tells shelf.old) (F.map shelf.old) (λ given. BestEnds given name.now target slack report.status report.text.items)) }
+    ensures cause { HasCause Halt.Outside (F.faults shelf.old) (F.faults shelf.new) result }
+    ensures tells { F.tells shelf.new ≡ F.tells shelf.old }
+    ensures same { F.map shelf.new ≡ F.map shelf.old }
+{
+    match read_all(alloc, shelf, name, MOST_RECIPE_BYTES) {
+        Ok(text) => or_halt(best_of_text(alloc, &text, target, slack)),
+        Err(ReadError::NotThere) => or_halt(refused(alloc, &Refusal::NotThere { name })),
+        Err(ReadError::TooLong) => or_halt(refused(alloc, &Refusal::TooLong { name })),
+        Err(ReadError::Fault) => Err(Halt::Outside),
+        Err(ReadError::Memory) => Err(Halt::Memory),
+    }
+}
+
+/// Finds the best set of the files of a recipe's text.
+fn best_of_text(
+    alloc: Global,
+    text: &[u8],
+    target: Amount,
+    slack: Amount,
+) -> Result<Report, NoMemory>
+    requires target { IsAmount target }
+    requires slack { IsAmount slack }
+    ensures { IfOk result (λ report. BestOver target slack report.status report.text.items text.now) }
+{
+    let recipe = match read_recipe(alloc, text) {
+        Ok(recipe) => recipe,
+        Err(RecipeError::Memory) => return Err(NoMemory),
+        Err(error) => return refused(alloc, &Refusal::NoRecipe(error)),
+    };
+    let files = recipe.files();
+    if files > MOST_TRIED_FILES {
+        return refused(alloc, &Refusal::TooManyFiles { files });
+    }
+    let range = range_within(recipe.total(), target, slack);
+    best_of_recipe(alloc, &recipe, &range)
+}
+
+/// The range of a target and a slack, percents being those of a total.
+fn range_within(total: u64, target: Amount, slack: Amount) -> Range
+    requires total { total ≤ MOST_BYTES }
+    requires target { IsAmount target }
+    requires slack { IsAmount slack }
+    ensures range { result ≡ range_around (amount_in total target) (amount_in total slack) }
+    ensures lawful { IsRange result }
+{
+    range_of(bytes_in(total, target), bytes_in(total, slack))
+}
+
+/// The bytes that an amount means, of a total.
+fn bytes_in(total: u64, amount: Amount) -> u64
+    requires total { total ≤ MOST_BYTES }
+    requires amount { IsAmount amount }
+    ensures bytes { result ≡ amount_in total amount }
+    ensures most { result ≤ MOST_BYTES }
+{
+    match amount {
+        Amount::Bytes(bytes) => bytes,
+        Amount::Percent(percent) => total * percent as u64 / 100,
+    }
+}
+
+/// Finds the best set of a recipe's files in a range.
+fn best_of_recipe(alloc: Global, recipe: &Recipe, range: &Range) -> Result<Report, NoMemory>
+    requires recipe { IsRecipe recipe.now }
+    requires few { length recipe.now.files ≤ MOST_TRIED_FILES }
+    requires range { IsRange range.now }
+    ensures { IfOk result (λ report. TriesAll recipe.now range.now report.status report.text.items) }
+{
+    let table = merged_table(alloc, recipe)?;
+    match try_all(alloc, &table, range)? {
+        Some(plan) => Ok(Report {
+            status: Status::Done,
+            text: text_of_best(alloc, recipe, &table, &plan)?,
+        }),
+        None => Ok(Report {
+            status: Status::No,
+            text: text_of_none(alloc)?,
+        }),
+    }
+}

@@ -1,0 +1,47 @@
+// What a command is to print.
+ghost use Rattle.std.specs.Prelude.{◌≡◌, IfOk, IfErr};
+ghost use Rattle.goseed_top.specs.Refusals.{Refuses};
+ghost use Rattle.goseed_top.specs.Refused.{refusal_of};
+
+use crate::refusal::{Refusal, number_of, text_of};
+use crate::status::Status;
+use seed_model::NoMemory;
+use std::alloc::Global;
+
+/// What a command is to print, and how it then ends.
+#[derive(Drop)]
+pub(crate) struct Report {
+    pub(crate) status: Status,
+    pub(crate) text: Vec<u8>,
+}
+
+/// Why a command has nothing to print.
+#[derive(Clone, Copy, Debug, PartialEq, Eq)]
+pub(crate) enum Halt {
+    /// A call of the shelf failed.
+    Outside,
+    /// Memory ran out.
+    Memory,
+}
+
+/// The report of a refused command.
+pub(crate) fn refused(alloc: Global, refusal: &Refusal) -> Result<Report, NoMemory>
+    ensures { IfOk result (λ report. Refuses (refusal_of refusal.now) report.status report.text.items) }
+{
+    let text = text_of(alloc, refusal)?;
+    Ok(Report {
+        status: Status::Refused(number_of(refusal)),
+        text: text.into_bytes(),
+    })
+}
+
+/// A report, or the halt for want of memory.
+pub(crate) fn or_halt(report: Result<Report, NoMemory>) -> Result<Report, Halt>
+    ensures ok { IfOk result (λ made. report ≡ Ok made) }
+    ensures err { IfErr result (λ halt. halt ≡ Halt.Memory) }
+{
+    match report {
+        Ok(report) => Ok(report),
+        Err(NoMemory) => Err(Halt::Memory),
+    }
+}
