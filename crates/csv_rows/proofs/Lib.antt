@@ -1,4 +1,5 @@
 pub mod Ends
+pub mod Flexible
 pub mod Mark
 pub mod Next
 pub mod Written

@@ -1,6 +1,6 @@
 -- The text that a writer of csv has taken.
-use Rattle.std.specs.Prelude.{◌≡◌, ◌++◌, List, ℕ, false, Vec}
-use Rattle.csv.specs.Writing.{default_writer}
+use Rattle.std.specs.Prelude.{◌≡◌, ◌++◌, List, ℕ, false, true, Vec}
+use Rattle.csv.specs.Writing.{default_writer, with_flexible}
 use Rattle.csv.specs.declared.writer.Writer.{Writer}
 use Rattle.std.specs.declared.alloc.Global.{Global}
 
@@ -8,8 +8,8 @@ use Rattle.std.specs.declared.alloc.Global.{Global}
 abbrev pub text_of : Writer (Vec ℕ Global) → List ℕ
 text_of w = w.wtr.inner.items ++ w.wtr.buf
 
--- the default writer, between two rows
+-- the default writer, but for rows of any lengths, between two rows
 pub record IsFresh (w : Writer (Vec ℕ Global)) : Type 0 where
-  pub setup : w.cfg ≡ default_writer
+  pub setup : w.cfg ≡ with_flexible default_writer true
   pub fields : w.fields ≡ 0
   pub wrote : w.wrote ≡ false

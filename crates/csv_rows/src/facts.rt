@@ -22,8 +22,8 @@ pub fn row_facts()
     ensures any_byte { rows_of (0 ∷ 44 ∷ 255 ∷ 10 ∷ []) ≡ ((0 ∷ []) ∷ (255 ∷ []) ∷ []) ∷ [] }
 {}
 
-/// What is written reads back, but for a byte order mark at its start: of that a text is free whose first field begins
-/// with none.
+/// What is written reads back, but that a row of no fields reads back as one empty field, and but for a byte order mark
+/// at its start: of that a text is free whose first field begins with none.
 pub fn round_trip()
     ensures reads_back { (rows : List (List (List ℕ))) → strip_bom (rows_text rows) ≡ rows_text rows → rows_of (rows_text rows) ≡ map read_back rows }
     ensures unmarked { (name rest : List ℕ) → strip_bom name ≡ name → strip_bom (field_text default_writer name ++ 44 ∷ rest) ≡ field_text default_writer name ++ 44 ∷ rest }
