@@ -18,8 +18,12 @@ pub struct FolderShelf<'r, R: Files> {
 }
 
 impl<'r, R: Files> FolderShelf<'r, R> {
+    ghost use Rattle.seed_io.specs.Held.{folder_faults};
+
     /// A shelf with no fault yet. It touches nothing outside.
-    pub fn new(rt: &'r R) -> Self {
+    pub fn new(rt: &'r R) -> Self
+        ensures { folder_faults result ≡ 0 }
+    {
         FolderShelf {
             rt,
             tally: FaultTally::new(),
@@ -37,11 +41,13 @@ impl<'r, R: Files> FolderShelf<'r, R> {
 }
 
 impl<'r, R: Files> Shelf for FolderShelf<'r, R> {
+    ghost use Rattle.seed_io.specs.Held.{folder_faults};
+
     ghost tells = { λ s. false };
 
     ghost map = { λ s name. None };
 
-    ghost faults = { λ s. s.tally };
+    ghost faults = { folder_faults };
 
     fn read_at(&mut self, name: &str, at: u64, into: &mut [u8]) -> Result<usize, ShelfError> {
         if self.tally.is_over() {

@@ -82,7 +82,9 @@ impl Shelf for MemShelf {
         ensures tells { true ≡ true }
         ensures map { true ≡ true → Creates (shelf_map self.old) (shelf_map self.new) name.now result }
         ensures listed { NextCall (shelf_plan self.old) (shelf_plan self.new) (is_shelf_fault result) }
+        ensures none { IsErrOf result ShelfError.Fault → shelf_map self.new ≡ shelf_map self.old }
     {
+        // A call that fails empties nothing.
         if self.plan.fails_next() {
             return Err(ShelfError::Fault);
         }
@@ -95,7 +97,9 @@ impl Shelf for MemShelf {
         ensures tells { true ≡ true }
         ensures map { true ≡ true → Appends (shelf_map self.old) (shelf_map self.new) name.now bytes.now result }
         ensures listed { NextCall (shelf_plan self.old) (shelf_plan self.new) (is_shelf_fault result) }
+        ensures none { IsErrOf result ShelfError.Fault → shelf_map self.new ≡ shelf_map self.old }
     {
+        // A call that fails adds nothing.
         if self.plan.fails_next() {
             return Err(ShelfError::Fault);
         }

@@ -27,8 +27,8 @@ pub trait Shelf {
     /// How many calls have failed. It stands still at 2^64 - 1.
     ghost faults: { Self → ℕ };
 
-    /// Copies the bytes of a name from a place on, as many as `into` has room for, and answers how many. With room,
-    /// none come only at the end.
+    /// Copies bytes of a name from a place on, at most as many as `into` has room for, and answers how many; it may give
+    /// fewer than there are. Where there is room, none come only at the end.
     fn read_at(&mut self, name: &str, at: u64, into: &mut [u8]) -> Result<usize, ShelfError>
         ensures bound { ReadsAtMost result into.new }
         ensures cause { HasCause Fault (faults self.old) (faults self.new) result }

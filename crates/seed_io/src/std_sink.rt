@@ -1,5 +1,5 @@
 // Standard output.
-ghost use Rattle.std.specs.Prelude.{false, []};
+ghost use Rattle.std.specs.Prelude.{◌≡◌, false, []};
 
 use crate::{Sink, SinkError};
 use fault_count::FaultTally;
@@ -15,8 +15,12 @@ pub struct StdSink<'r, R: Print> {
 }
 
 impl<'r, R: Print> StdSink<'r, R> {
+    ghost use Rattle.seed_io.specs.Held.{output_faults};
+
     /// A sink with no fault yet. It touches nothing outside.
-    pub fn new(rt: &'r R) -> Self {
+    pub fn new(rt: &'r R) -> Self
+        ensures { output_faults result ≡ 0 }
+    {
         StdSink {
             rt,
             tally: FaultTally::new(),
@@ -41,11 +45,13 @@ fn write_whole<W: Write>(to: &mut W, bytes: &[u8]) -> bool {
 }
 
 impl<'r, R: Print> Sink for StdSink<'r, R> {
+    ghost use Rattle.seed_io.specs.Held.{output_faults};
+
     ghost tells = { λ s. false };
 
     ghost taken = { λ s. [] };
 
-    ghost faults = { λ s. s.tally };
+    ghost faults = { output_faults };
 
     fn push(&mut self, bytes: &[u8]) -> Result<(), SinkError> {
         if self.tally.is_over() {
