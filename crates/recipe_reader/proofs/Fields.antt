@@ -1,11 +1,13 @@
 -- The fields of a row, and the names that they spell.
 use Rattle.std.specs.Prelude.{◌/◌, Option, Result, Ok, IsSome, MatchResult, option_map}
 use Rattle.std.proofs.Common.{◌≡◌, ◌∙◌, ◌∷◌, ◌<◌, ◌≤◌, [], ℕ, List, Some, None, refl, sym, ap, subst, length, get_or, arith, inl, inr, Bor}
+use Rattle.std.proofs.lemmas.List.{get_or_default}
 use Rattle.csv.specs.Records.{field_at}
 use Rattle.csv.proofs.RecordFacts.{field-get, field-there}
 use Rattle.hex.specs.Hex.{decode_of, decode_pairs, decode_sized}
 use Rattle.hex.specs.declared.error.FromHexError.{FromHexError}
 use Rattle.hex.proofs.HexLemmas.{decode_of-ok}
+use Rattle.recipe_reader.specs.Lawful.{IsChunkName}
 use Rattle.recipe_reader.specs.Parts.{NamesChunk}
 use Rattle.recipe_reader.specs.Reading.{HasChunkName}
 
@@ -64,3 +66,12 @@ undecoded text room P Q half told none (inr (name, spelled)) =
     let decoded : decode_sized text room ≡ Ok name = rw half (decode_sized-half text ∙ spelled.digits) in
     let M : Result (List ℕ) FromHexError → Type 0 = λ r. MatchResult r P Q in
     none name (subst M decoded told)
+
+-- the bytes of a name that a text spells may name a chunk
+pub named_lawful : (text name : List ℕ) → NamesChunk text name → 0 < length name → IsChunkName name
+named_lawful text name (inl none) some = let nothing = ap (λ (t : List ℕ). length t) none.1 in absurd (omega (arith, nothing, some))
+named_lawful text name (inr spelled) some = record {
+  bytes = λ i d h. rw (get_or_default name i 0 d h) at ((decode_of-ok text name spelled.digits).3 i);
+  some = spelled.some;
+  short = spelled.short;
+}

@@ -1,12 +1,11 @@
 -- The first of same items, and one item more.
-use Rattle.std.specs.Prelude.{◌||◌, ◌⊎◌, Contains, All, filter, map, not, if◌then◌else◌}
-use Rattle.std.proofs.Common.{◌≡◌, ◌∙◌, ◌∷◌, ◌++◌, [], ℕ, List, Bool, Option, Some, None, refl, sym, ap, true, false, cond, length, inl, inr}
+use Rattle.std.specs.Prelude.{◌⊎◌, Contains, All, filter, not, if◌then◌else◌}
+use Rattle.std.proofs.Common.{◌≡◌, ◌∙◌, ◌∷◌, ◌++◌, [], List, Bool, Option, refl, sym, ap, true, false, inl, inr}
 use Rattle.std.specs.Cmp.{IsEquivalence}
 use Rattle.std.specs.List.{list_any, position_or_len, filter_map}
 use Rattle.std.proofs.lemmas.Bool.{cases_Bool}
 use Rattle.std.proofs.lemmas.List.{append-nil}
 use Rattle.std.proofs.lemmas.List.Elements.{All-head, All-tail, Contains-push_cases, filter-append}
-use Rattle.std.proofs.lemmas.List.Folds.{list_any-append}
 use Rattle.recipe_reader.specs.Appearance.{firsts}
 use Rattle.recipe_reader.specs.Recipes.{with_new}
 use Rattle.recipe_reader.proofs.Keeping.{any_before, any_last}

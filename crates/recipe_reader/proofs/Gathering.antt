@@ -1,18 +1,16 @@
 -- Rows that lead to a recipe gather to it.
-use Rattle.std.specs.Prelude.{◌||◌, ◌⊎◌, Contains, All, filter, map, not, if◌then◌else◌}
-use Rattle.std.proofs.Common.{◌≡◌, ◌∙◌, ◌∷◌, ◌++◌, [], ℕ, List, Bool, Option, Some, None, refl, sym, ap, subst, true, false, cond, length, inl, inr}
-use Rattle.std.specs.Cmp.Lexicographic.{pointwise, nat_list_eq_equiv}
-use Rattle.std.specs.List.{AllZip, list_any, position_or_len, filter_map}
+use Rattle.std.specs.Prelude.{All, map}
+use Rattle.std.proofs.Common.{◌≡◌, ◌∙◌, ◌∷◌, ◌++◌, [], ℕ, List, Option, Some, None, refl, sym, ap, subst, true, inl, inr}
+use Rattle.std.specs.List.{AllZip, list_any, filter_map}
 use Rattle.std.proofs.lemmas.List.{append-nil, append_assoc, map-append}
 use Rattle.std.proofs.lemmas.List.Elements.{All-nil, All-push, All-weaker, filter_map-append}
 use Rattle.recipe_reader.specs.Appearance.{firsts, pair_named, Gathers, IsGathered}
 use Rattle.recipe_reader.specs.Limits.{KeepsSize}
-use Rattle.recipe_reader.specs.Reading.{Leads, MayFollow, TakesRow}
+use Rattle.recipe_reader.specs.Reading.{Leads}
 use Rattle.recipe_reader.specs.Recipes.{NamedChunk, RecipeValue, empty_recipe, is_named, is_chunk, is_pair, with_new, with_file, with_pair, file_number, chunk_number}
 use Rattle.recipe_reader.specs.Rows.{Row, SpellsRow, with_row}
 use Rattle.recipe_reader.proofs.Firsts.{firsts-push, any_with_new, place_with_new, any_new, contains_with_new, filter_map-same}
 use Rattle.recipe_reader.proofs.Keeping.{named_equiv, chunk_equiv, pair_equiv}
-use Rattle.recipe_reader.proofs.Sizes.{keeps_new}
 
 -- the chunk, if any, is known by name
 abbrev pub KnowsChunk : RecipeValue → Option NamedChunk → Type 0

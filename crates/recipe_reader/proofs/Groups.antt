@@ -1,10 +1,10 @@
 -- Lists of chunks, one for each file.
-use Rattle.std.specs.Prelude.{◌==◌, filter, map, nat_eq}
-use Rattle.std.proofs.Common.{◌≡◌, ◌≢◌, ◌∙◌, ◌∷◌, ◌++◌, ◌+◌, ◌<◌, [], ℕ, suc, List, refl, sym, ap, true, false, length, take, drop, replicate, set, get_or, arith, inl, inr, Vec, Global}
+use Rattle.std.specs.Prelude.{◌==◌, filter, map}
+use Rattle.std.proofs.Common.{◌≡◌, ◌≢◌, ◌∙◌, ◌∷◌, ◌++◌, ◌<◌, [], ℕ, List, refl, sym, ap, true, length, replicate, set, get_or, arith, inl, inr, Vec, Global}
 use Rattle.std.specs.Cmp.{nat_eq_equiv}
 use Rattle.std.specs.List.{range_with_len}
 use Rattle.std.proofs.lemmas.Bool.{cases_eq, ne_eqb}
-use Rattle.std.proofs.lemmas.List.{take_more, map-append, map-set, length-set, append-nil, get_or-map, get_or-set_same, get_or-set_other, length-replicate, get_or-replicate}
+use Rattle.std.proofs.lemmas.List.{map-append, map-set, length-set, append-nil, get_or-map, get_or-set_same, get_or-set_other, length-replicate, get_or-replicate}
 use Rattle.std.proofs.lemmas.List.Elements.{filter-append}
 use Rattle.std.proofs.lemmas.List.FromFn.{length-map-range_with_len, get_or-map-range_with_len, fill_by_all}
 use Rattle.recipe_reader.specs.ListViews.{lists_in}

@@ -1,10 +1,10 @@
 -- A recipe stays one when a file, a pair or a chunk is put last.
-use Rattle.std.specs.Prelude.{◌&&◌, ◌||◌, ◌⊎◌, ◌==◌, All, sum_by}
+use Rattle.std.specs.Prelude.{Result, Ok, Err, OnOk, OnErr, ◌&&◌, ◌||◌, ◌⊎◌, ◌==◌, All, sum_by}
 use Rattle.std.proofs.Common.{◌≡◌, ◌≢◌, ◌∙◌, ◌∷◌, ◌++◌, ◌+◌, ◌<◌, ◌≤◌, [], ℕ, List, Bool, refl, true, false, length, inl, inr, arith}
 use Rattle.std.specs.Cmp.{IsEquivalence, on_equiv, and_equiv, nat_eq_equiv}
 use Rattle.std.specs.Cmp.Lexicographic.{nat_list_eq_equiv}
 use Rattle.std.specs.List.{IsDistinct, list_any}
-use Rattle.std.proofs.lemmas.Bool.{cases_lt, ne_eqb}
+use Rattle.std.proofs.lemmas.Bool.{cases_Bool, cases_lt, ne_eqb}
 use Rattle.std.proofs.lemmas.List.{length_push}
 use Rattle.std.proofs.lemmas.List.Elements.{All-push, All-nil, All-weaker}
 use Rattle.std.proofs.lemmas.List.Folds.{list_any-append, list_any_none}
@@ -13,7 +13,7 @@ use Rattle.std.proofs.lemmas.Map.Keys.{IsDistinct-push}
 use Rattle.file_names.specs.FileNames.{IsFileName}
 use Rattle.seed_model.specs.declared.limits.TheConstants.{MOST_FILES, MOST_CHUNKS, MOST_PAIRS, MOST_BYTES}
 use Rattle.recipe_reader.specs.Lawful.{IsChunk, IsPairBelow, IsRecipe}
-use Rattle.recipe_reader.specs.Recipes.{NamedChunk, RecipeValue, empty_recipe, bytes_of, is_named, is_chunk, is_pair}
+use Rattle.recipe_reader.specs.Recipes.{NamedChunk, RecipeValue, empty_recipe, bytes_of, is_named, is_chunk, is_pair, with_new, with_use}
 
 -- the tests of names, chunks and pairs are equivalences
 pub named_equiv : IsEquivalence is_named
@@ -97,6 +97,21 @@ use_keeps r file chunk h file_there chunk_there new room =
       pairs_differ = IsDistinct-push pair_equiv r.pairs (file, chunk) h.pairs_differ new;
       used = λ c below. let u = h.used c below in (u.0, any_before (is_pair u.0 c) r.pairs (file, chunk) u.1);
     }
+
+-- a use that is known changes nothing; one that is new needs room
+pub known_or_new_keeps : (r : RecipeValue) (file chunk : ℕ) → IsRecipe r → file < length r.files → chunk < length r.chunks
+    → (list_any (is_pair file chunk) r.pairs ≡ false → length r.pairs < MOST_PAIRS) → IsRecipe (with_use r file chunk)
+known_or_new_keeps r file chunk h file_there chunk_there room = elim (cases_Bool (list_any (is_pair file chunk) r.pairs)) [
+  | inl known ↦ rw known h
+  | inr new ↦ rw new (use_keeps r file chunk h file_there chunk_there new (room new))
+]
+
+-- a recipe after a try to add a pair to it
+pub tried_keeps : {E : Type 0} (r : RecipeValue) (pairs : List (ℕ × ℕ)) (file chunk : ℕ) (tried : Result (Unit {0}) E) → IsRecipe r → file < length r.files → chunk < length r.chunks
+    → OnOk tried (pairs ≡ with_new (is_pair file chunk) r.pairs (file, chunk)) → OnOk tried (list_any (is_pair file chunk) r.pairs ≡ false → length r.pairs < MOST_PAIRS)
+    → OnErr tried (pairs ≡ r.pairs) → IsRecipe (record r { pairs = pairs })
+tried_keeps r pairs file chunk (Ok done) h file_there chunk_there is room same = rw is (known_or_new_keeps r file chunk h file_there chunk_there room)
+tried_keeps r pairs file chunk (Err error) h file_there chunk_there is room same = rw same h
 
 pub chunk_keeps : (r : RecipeValue) (file : ℕ) (c : NamedChunk) → IsRecipe r → file < length r.files → IsChunk c → list_any (is_chunk c.name) r.chunks ≡ false
     → length r.chunks < MOST_CHUNKS → bytes_of r + c.size ≤ MOST_BYTES → length r.pairs < MOST_PAIRS

@@ -2,9 +2,11 @@ pub mod Entries
 pub mod Fields
 pub mod Firsts
 pub mod Gathering
+pub mod Grouping
 pub mod Groups
 pub mod Keeping
 pub mod Numbers
+pub mod OneFault
 pub mod OneMeaning
 pub mod OnePairMore
 pub mod ReadBack

@@ -1,9 +1,12 @@
 -- Look-ups by a test, and items put last.
 use Rattle.std.specs.Prelude.{map, not, position, nat_lt, if◌then◌else◌}
-use Rattle.std.proofs.Common.{◌≡◌, ◌∙◌, ◌∷◌, ◌++◌, ◌+◌, ◌<◌, [], ℕ, suc, List, Bool, Some, None, Option, refl, sym, ap, true, false, length, slice_get, cond, inl, inr, arith}
-use Rattle.std.specs.List.{list_any, position_or_len}
+use Rattle.std.proofs.Common.{◌≡◌, ◌∙◌, ◌∷◌, ◌++◌, ◌+◌, ◌<◌, [], ℕ, suc, List, Bool, Some, None, Option, refl, sym, ap, true, false, length, slice_get, get_or, cond, inl, inr, arith}
+use Rattle.std.specs.List.{IsDistinct, list_any, position_or_len}
 use Rattle.std.proofs.lemmas.Bool.{cases_Bool}
 use Rattle.std.proofs.lemmas.List.{map-append}
+use Rattle.std.proofs.lemmas.List.Sums.{position_or_len_is}
+use Rattle.std.proofs.lemmas.Map.Keys.{apart_from_distinct}
+use Rattle.std.proofs.lemmas.Option.{slice_get_within, get_or_from_slice_get}
 use Rattle.std.proofs.lemmas.Bool.Decides.{nat_tests}
 use Rattle.recipe_reader.specs.Numbers.{IsNumberOf}
 
@@ -59,6 +62,22 @@ number_of p xs (Some i) e = elim (cases_Bool (list_any p xs)) [
       let lt : nat_lt (position_or_len p xs) (length xs) ≡ false = grind (arith, nat_tests, n) in
       cc (rw lt at e)
 ]
+
+-- among distinct items, one that passes is the first that does
+pub number_of_only : {A : Type 0} (same : A → A → Bool) (p : A → Bool) (xs : List A) (i : ℕ) (x : A) → IsDistinct same xs → ((y : A) → p y ≡ true → same y x ≡ true)
+    → slice_get xs i ≡ Some x → p x ≡ true → IsNumberOf p xs (Some i)
+number_of_only same p xs i x distinct alike at passes =
+    let within : i < length xs = slice_get_within xs i x at in
+    let found : get_or xs i x ≡ x = get_or_from_slice_get xs i x x at in
+    let first : position_or_len p xs ≡ i = position_or_len_is p xs i x (omega (arith, within)) (λ k below. elim (cases_Bool (p (get_or xs k x))) [
+      | inl t ↦ cc (alike (get_or xs k x) t, rw found at (apart_from_distinct same xs k i x distinct below within))
+      | inr f ↦ f
+    ]) (λ _. rw found passes) in
+    let there : list_any p xs ≡ true = elim (cases_Bool (list_any p xs)) [
+      | inl t ↦ t
+      | inr f ↦ let none = no_place p xs f in absurd (omega (arith, none, first, within))
+    ] in
+    (there, sym first)
 
 -- the same of items that are seen by a view
 pub to_view : {A B : Type 0} (v : A → B) (p : B → Bool) (xs : List A) (o : Option ℕ) → IsNumberOf (λ x. p (v x)) xs o → IsNumberOf p (map v xs) o

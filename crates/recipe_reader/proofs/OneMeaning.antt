@@ -1,14 +1,13 @@
 -- Rows lead to one recipe.
-use Rattle.std.specs.Prelude.{◌⊎◌, Option, Result, Ok, Err, codes}
-use Rattle.std.proofs.Common.{◌≡◌, ◌≢◌, ◌∙◌, ◌∷◌, ◌++◌, ◌+◌, ◌<◌, ◌≤◌, [], ℕ, List, Some, None, refl, sym, ap, subst, length, arith, inl, inr}
+use Rattle.std.specs.Prelude.{Option, codes}
+use Rattle.std.proofs.Common.{◌≡◌, ◌∙◌, ◌∷◌, ◌++◌, ◌+◌, [], ℕ, List, Some, None, refl, sym, ap, subst, length, arith, inl, inr}
 use Rattle.std.proofs.lemmas.Fmt.{decimal_injective}
 use Rattle.std.specs.Fmt.{decimal, digits}
-use Rattle.hex.specs.Hex.{decode_of}
 use Rattle.hex.proofs.HexLemmas.{decode_of-ok}
 use Rattle.recipe_reader.specs.Limits.{IsWithinLimits, KeepsSize, PassesFirst}
 use Rattle.recipe_reader.specs.Reading.{HasBadSize, HasChunkName, IsFault, IsFirstFault, Leads, TakesRow}
 use Rattle.recipe_reader.specs.Recipes.{NamedChunk, RecipeValue}
-use Rattle.recipe_reader.specs.Rows.{Row, SpellsRow, SpellsChunk, SpellsChunkName, SpellsSize, with_row}
+use Rattle.recipe_reader.specs.Rows.{Row, SpellsRow, SpellsChunk, SpellsChunkName, with_row}
 use Rattle.recipe_reader.specs.declared.error.RecipeError.{RecipeError}
 use Rattle.recipe_reader.specs.declared.error.RecipeError.TheVariants.{BadRow, BadName, BadChunkName, BadSize, SizeClash, TooMany, Memory}
 use Rattle.recipe_reader.specs.declared.error.What.{What}
@@ -65,7 +64,7 @@ before_row (row ∷ front) fields rest start a p =
     let b = before_row front fields rest p.0 a p.2 in
     record { before = b.before; led = (p.0, p.1, b.led); after = b.after; taken = b.taken }
 
-well_named : (text size : List ℕ) (o : Option NamedChunk) → SpellsChunk text size o → HasChunkName text
+pub well_named : (text size : List ℕ) (o : Option NamedChunk) → SpellsChunk text size o → HasChunkName text
 well_named text size None p = inl p.0
 well_named text size (Some c) p = inr (c.name, p.0)
 
@@ -73,7 +72,7 @@ zero_spelled : codes "0" ≡ decimal 0
 unfolding digits
 zero_spelled = refl
 
-well_sized : (text size : List ℕ) (o : Option NamedChunk) → SpellsChunk text size o → HasBadSize text size → ⊥
+pub well_sized : (text size : List ℕ) (o : Option NamedChunk) → SpellsChunk text size o → HasBadSize text size → ⊥
 well_sized text size None p (inl none) = none 0 (record { digits = p.1 ∙ zero_spelled; small = omega arith })
 well_sized text size None p (inr bad) = bad.1 p.1
 well_sized text size (Some c) p (inl none) = none c.size p.1

@@ -1,9 +1,8 @@
 -- The text of a recipe has the rows of the recipe.
-use Rattle.std.specs.Prelude.{◌&&◌, ◌==◌, All, map, codes, if◌then◌else◌}
-use Rattle.std.proofs.Common.{◌≡◌, ◌≢◌, ◌∙◌, ◌∷◌, ◌++◌, ◌+◌, ◌<◌, ◌≤◌, [], ℕ, zero, suc, List, refl, sym, ap, true, false, length, get_or, arith, inl, inr, append_assoc}
+use Rattle.std.specs.Prelude.{◌&&◌, ◌==◌, All, map, codes}
+use Rattle.std.proofs.Common.{◌≡◌, ◌∙◌, ◌∷◌, ◌++◌, ◌≤◌, [], ℕ, zero, suc, List, refl, sym, ap, length, arith, inl, inr, append_assoc}
 use Rattle.std.specs.List.{flat_map, range_with_len}
 use Rattle.std.proofs.lemmas.Bool.{cases_Bool, and_parts, eqb-true}
-use Rattle.std.proofs.lemmas.List.Elements.{All-nil, All-cons, All-head, All-tail}
 use Rattle.std.specs.Fmt.{decimal}
 use Rattle.std.proofs.lemmas.List.{map-append}
 use Rattle.hex.specs.Hex.{encode_lower}

@@ -1,17 +1,17 @@
 -- Rows of a recipe lead to a recipe again, within the limits.
-use Rattle.std.specs.Prelude.{◌⊎◌, Contains, All, map, sum_by, Option, if◌then◌else◌}
-use Rattle.std.proofs.Common.{◌≡◌, ◌≢◌, ◌∙◌, ◌∷◌, ◌++◌, ◌+◌, ◌<◌, ◌≤◌, [], ℕ, suc, List, Bool, Some, None, refl, sym, ap, subst, true, false, length, length-append, arith, inl, inr}
+use Rattle.std.specs.Prelude.{Contains, All, Option}
+use Rattle.std.proofs.Common.{◌≡◌, ◌∙◌, ◌∷◌, ◌++◌, ◌+◌, ◌≤◌, [], ℕ, List, Bool, Some, None, refl, sym, ap, length, length-append, arith, inl, inr}
 use Rattle.std.specs.Cmp.{IsEquivalence}
 use Rattle.std.specs.List.{AllZip, IsDistinct, list_any, filter_map}
 use Rattle.std.proofs.lemmas.Bool.{cases_Bool}
 use Rattle.std.proofs.lemmas.List.{append-nil, append_assoc, length_push}
 use Rattle.std.proofs.lemmas.List.Elements.{All-head, All-tail, filter_map-append}
 use Rattle.std.proofs.lemmas.Map.Keys.{IsDistinct-push}
-use Rattle.seed_model.specs.declared.limits.TheConstants.{MOST_FILES, MOST_CHUNKS, MOST_PAIRS, MOST_BYTES}
+use Rattle.seed_model.specs.declared.limits.TheConstants.{MOST_PAIRS}
 use Rattle.recipe_reader.specs.Lawful.{IsRecipe}
 use Rattle.recipe_reader.specs.Limits.{IsWithinLimits, KeepsSize}
-use Rattle.recipe_reader.specs.Reading.{Leads, MayFollow, TakesRow}
-use Rattle.recipe_reader.specs.Recipes.{NamedChunk, RecipeValue, empty_recipe, is_named, is_chunk, is_pair, with_new, with_file, with_pair, file_number, chunk_number}
+use Rattle.recipe_reader.specs.Reading.{Leads, MayFollow}
+use Rattle.recipe_reader.specs.Recipes.{NamedChunk, RecipeValue, is_named, is_chunk, is_pair, with_new, with_file, with_pair, file_number, chunk_number}
 use Rattle.recipe_reader.specs.Rows.{Row, SpellsRow, with_row}
 use Rattle.recipe_reader.proofs.Firsts.{contains_with_new}
 use Rattle.recipe_reader.proofs.Gathering.{SoFar, step}
@@ -46,7 +46,7 @@ part_limits r part rows h p few =
     record { files = omega (arith, files); chunks = omega (arith, chunks); bytes = omega (arith, bytes); pairs = omega (arith, pairs) }
 
 -- items stay distinct, and grow by one at most
-distinct_with_new : {X : Type 0} (same : X → X → Bool) → IsEquivalence same → (xs : List X) (y : X) → IsDistinct same xs → IsDistinct same (with_new (same y) xs y)
+pub distinct_with_new : {X : Type 0} (same : X → X → Bool) → IsEquivalence same → (xs : List X) (y : X) → IsDistinct same xs → IsDistinct same (with_new (same y) xs y)
 distinct_with_new same laws xs y distinct = elim (cases_Bool (list_any (same y) xs)) [
   | inl t ↦ rw t distinct
   | inr f ↦ rw f (IsDistinct-push laws xs y distinct f)

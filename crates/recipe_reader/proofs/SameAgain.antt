@@ -1,8 +1,8 @@
 -- What is read back is the recipe that was written.
-use Rattle.std.specs.Prelude.{not, ◌==◌, ◌&&◌, ◌⊎◌, ◌↔◌, Contains, All, map, filter, codes, Option, option_map, if◌then◌else◌}
-use Rattle.std.proofs.Common.{◌≡◌, ◌≢◌, ◌∙◌, ◌∷◌, ◌++◌, ◌+◌, ◌<◌, ◌≤◌, [], ℕ, zero, suc, List, Bool, Some, None, refl, sym, ap, subst, true, false, length, take, slice_get, get_or, arith, inl, inr, append_assoc}
+use Rattle.std.specs.Prelude.{not, ◌==◌, ◌↔◌, Contains, map, filter, Option, option_map}
+use Rattle.std.proofs.Common.{◌≡◌, ◌∙◌, ◌∷◌, ◌++◌, ◌+◌, ◌<◌, ◌≤◌, [], ℕ, zero, suc, List, Bool, Some, None, refl, sym, ap, subst, true, false, length, take, slice_get, get_or, arith, inl, inr, append_assoc}
 use Rattle.std.specs.Cmp.{IsEquivalence, nat_eq_equiv}
-use Rattle.std.specs.Cmp.Lexicographic.{pointwise, same_text}
+use Rattle.std.specs.Cmp.Lexicographic.{same_text}
 use Rattle.std.specs.List.{IsDistinct, flat_map, range_with_len, filter_map, list_any, cons_option}
 use Rattle.std.proofs.lemmas.Bool.{cases_Bool, cases_lt, and_parts, eqb-true}
 use Rattle.std.proofs.lemmas.Grind.{flat_map-append}
@@ -21,8 +21,8 @@ use Rattle.recipe_reader.specs.Same.{IsSameRecipe, UsesByName}
 use Rattle.recipe_reader.specs.WrittenRows.{chunks_used, file_at}
 use Rattle.recipe_reader.proofs.Firsts.{firsts-push}
 use Rattle.recipe_reader.proofs.Gathering.{SoFar, Stands}
-use Rattle.recipe_reader.proofs.Keeping.{any_last, named_equiv, chunk_equiv, pair_equiv}
-use Rattle.recipe_reader.proofs.Numbers.{IsPlace, place}
+use Rattle.recipe_reader.proofs.Keeping.{any_last, named_equiv, pair_equiv}
+use Rattle.recipe_reader.proofs.Numbers.{place}
 use Rattle.recipe_reader.proofs.Replaying.{IsPart}
 use Rattle.recipe_reader.proofs.Sizes.{contains_at}
 use Rattle.recipe_reader.proofs.Subsets.{cons_cases, contains_head, contains_tail}

@@ -1,6 +1,6 @@
 -- Distinct items of a list sum to no more than all.
-use Rattle.std.specs.Prelude.{◌⊎◌, Contains, All, map, sum_by}
-use Rattle.std.proofs.Common.{◌≡◌, ◌≢◌, ◌∙◌, ◌∷◌, ◌++◌, ◌+◌, ◌<◌, ◌≤◌, [], ℕ, zero, suc, List, Bool, refl, sym, ap, true, false, length, get_or, arith, inl, inr}
+use Rattle.std.specs.Prelude.{◌⊎◌, Contains, sum_by}
+use Rattle.std.proofs.Common.{◌≡◌, ◌∙◌, ◌∷◌, ◌++◌, ◌+◌, ◌<◌, ◌≤◌, [], ℕ, zero, suc, List, Bool, refl, ap, false, length, get_or, arith, inl, inr}
 use Rattle.std.specs.Cmp.{IsEquivalence}
 use Rattle.std.specs.List.{AllByRecursion, IsDistinct}
 use Rattle.std.proofs.lemmas.List.Elements.{All-contains, All-from_recursion, Contains-append_cases, Contains-append_left, Contains-append_right}

@@ -1,6 +1,6 @@
 -- The rows by which a recipe is written, as what they say.
-use Rattle.std.specs.Prelude.{◌==◌, ◌⊎◌, Contains, All, map, sum_by, codes, Option, if◌then◌else◌}
-use Rattle.std.proofs.Common.{◌≡◌, ◌≢◌, ◌∙◌, ◌∷◌, ◌++◌, ◌+◌, ◌<◌, ◌≤◌, [], ℕ, zero, suc, List, Bool, Some, None, refl, sym, ap, true, false, length, length-append, get_or, arith, inl, inr}
+use Rattle.std.specs.Prelude.{◌==◌, All, map, sum_by, codes, if◌then◌else◌}
+use Rattle.std.proofs.Common.{◌≡◌, ◌≢◌, ◌∙◌, ◌∷◌, ◌++◌, ◌+◌, ◌<◌, ◌≤◌, [], ℕ, zero, suc, List, Some, None, refl, ap, length, length-append, get_or, arith, inl, inr}
 use Rattle.std.specs.List.{AllZip, flat_map, range_with_len, filter_map}
 use Rattle.std.proofs.lemmas.Bool.{cases_Bool, cases_lt, eqb-true, ne_eqb}
 use Rattle.std.proofs.lemmas.List.{get_or-map, get_or_past}

@@ -1,15 +1,14 @@
 -- The text of a recipe, row by row.
-use Rattle.std.specs.Prelude.{◌==◌, All, filter, map, codes, Result, Ok, Err, OnOk}
-use Rattle.std.proofs.Common.{◌≡◌, ◌≢◌, ◌∙◌, ◌∷◌, ◌++◌, ◌+◌, ◌<◌, ◌≤◌, [], ℕ, suc, List, refl, sym, ap, true, false, length, take, get_or, arith, inl, inr, append_assoc}
+use Rattle.std.specs.Prelude.{◌==◌, All, map}
+use Rattle.std.proofs.Common.{◌≡◌, ◌≢◌, ◌∙◌, ◌∷◌, ◌++◌, ◌+◌, ◌<◌, [], ℕ, List, refl, sym, ap, length, arith, inl, inr}
 use Rattle.std.specs.List.{flat_map, range_with_len}
 use Rattle.std.proofs.lemmas.Bool.{cases_Bool}
 use Rattle.std.proofs.lemmas.Grind.{flat_map-append}
 use Rattle.std.proofs.lemmas.List.{append-nil, map-id}
 use Rattle.std.proofs.lemmas.List.Elements.{All-nil, All-cons, All-head, All-tail}
 use Rattle.std.proofs.lemmas.List.FromFn.{map-range_with_len_more}
-use Rattle.csv.specs.Writing.{default_writer, row_text}
 use Rattle.csv_rows.specs.Rows.{rows_text}
-use Rattle.csv_rows.proofs.Written.{rows_text-append, rows_text-one}
+use Rattle.csv_rows.proofs.Written.{rows_text-append}
 use Rattle.recipe_reader.specs.Lawful.{IsPairBelow}
 use Rattle.recipe_reader.specs.Recipes.{RecipeValue}
 use Rattle.recipe_reader.specs.WrittenRows.{chunks_used, file_rows, pair_row}

@@ -1,5 +1,7 @@
 pub mod Adding
 pub mod Appearance
+pub mod Grouped
+pub mod GroupedInside
 pub mod Lawful
 pub mod Limits
 pub mod ListViews

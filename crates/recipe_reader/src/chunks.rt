@@ -1,18 +1,23 @@
 // The chunks of a recipe: names and sizes.
-ghost use Rattle.std.specs.Prelude.{◌≡◌, ◌<◌, ◌∷◌, ◌++◌, [], List, ℕ, length, false, Some, slice_get, option_map, IfSome, OnOk, OnErr};
+ghost use Rattle.std.specs.Prelude.{◌≡◌, ◌<◌, ◌≤◌, ◌∷◌, ◌++◌, [], List, ℕ, length, false, Some, slice_get, option_map, IfSome, OnOk, OnErr};
 ghost use Rattle.std.specs.List.{list_any};
-ghost use Rattle.recipe_reader.specs.Recipes.{is_chunk};
+ghost use Rattle.recipe_reader.specs.Recipes.{NamedChunk, is_chunk};
 ghost use Rattle.recipe_reader.specs.Numbers.{IsNumberOf};
 
+use crate::error::LONGEST_CHUNK_NAME;
+use arrayvec::ArrayVec;
 use indexmap::IndexMap;
 use seed_model::NoMemory;
 use std::alloc::Global;
 use std::marker::Model;
 
-/// Chunks, numbered from 0 by first appearance.
+/// The bytes of a chunk's name, at most 64; none where a row names no chunk.
+pub(crate) type ChunkName = ArrayVec<u8, LONGEST_CHUNK_NAME>;
+
+/// Chunks, numbered from 0 by first appearance. The names lie in the map itself, so that a look-up follows no pointer.
 #[derive(Drop)]
 pub(crate) struct ChunkList {
-    sizes: IndexMap<Vec<u8>, u64>,
+    sizes: IndexMap<ChunkName, u64>,
 }
 
 impl Model for ChunkList {
@@ -29,12 +34,15 @@ impl Model for ChunkList {
 }
 
 impl ChunkList {
-    /// No chunks.
-    pub(crate) fn new(alloc: Global) -> Self
+    /// No chunks, with room ahead for so many where there is memory for that.
+    pub(crate) fn with_room(alloc: Global, count: usize) -> Self
         ensures { result ≡ [] }
     {
-        ChunkList {
-            sizes: IndexMap::new(alloc),
+        match IndexMap::with_capacity(alloc, count) {
+            Ok(sizes) => ChunkList { sizes },
+            Err(_) => ChunkList {
+                sizes: IndexMap::new(alloc),
+            },
         }
     }
 
@@ -46,9 +54,9 @@ impl ChunkList {
     }
 
     /// The number and the size of the chunk with a name.
-    pub(crate) fn find(&self, name: &[u8]) -> Option<(usize, u64)>
-        ensures number { IsNumberOf (is_chunk name.now) self.now (option_map (λ p. p.0) result) }
-        ensures size { IfSome result (λ p. slice_get self.now p.0 ≡ Some (record { name = name.now; size = p.1 })) }
+    pub(crate) fn find(&self, name: &ChunkName) -> Option<(usize, u64)>
+        ensures number { IsNumberOf (is_chunk name.now.items) self.now (option_map (λ p. p.0) result) }
+        ensures size { IfSome result (λ p. slice_get self.now p.0 ≡ Some (record { name = name.now.items; size = p.1 })) }
     {
         match self.sizes.get_full(name) {
             Some((number, _, size)) => Some((number, *size)),
@@ -57,18 +65,22 @@ impl ChunkList {
     }
 
     /// Puts a new chunk last.
-    pub(crate) fn push(&mut self, name: &[u8], size: u64) -> Result<(), NoMemory>
-        requires { list_any (is_chunk name.now) self.old ≡ false }
-        ensures ok { OnOk result (self.new ≡ self.old ++ record { name = name.now; size = size } ∷ []) }
+    pub(crate) fn push(&mut self, name: ChunkName, size: u64) -> Result<(), NoMemory>
+        requires { list_any (is_chunk name.items) self.old ≡ false }
+        ensures ok { OnOk result (self.new ≡ self.old ++ record { name = name.items; size = size } ∷ []) }
         ensures err { OnErr result (self.new ≡ self.old) }
     {
-        let Ok(owned) = name.to_vec(*self.sizes.allocator()) else {
-            return Err(NoMemory);
-        };
-        let Ok(_) = self.sizes.insert(owned, size) else {
+        let Ok(_) = self.sizes.insert(name, size) else {
             return Err(NoMemory);
         };
         Ok(())
+    }
+
+    /// Takes the last chunk away.
+    pub(crate) fn forget_last(&mut self)
+        ensures { (front : List NamedChunk) (chunk : NamedChunk) → self.old ≡ front ++ chunk ∷ [] → self.new ≡ front }
+    {
+        let _ = self.sizes.pop();
     }
 
     /// The name and the size of the chunk with a number.
@@ -79,4 +91,14 @@ impl ChunkList {
         let (name, size) = self.sizes.get_index(number).unwrap();
         (name.as_slice(), *size)
     }
+}
+
+/// The name of these bytes.
+pub(crate) fn name_of(bytes: &[u8]) -> ChunkName
+    requires { length bytes.now ≤ LONGEST_CHUNK_NAME }
+    ensures { result.items ≡ bytes.now }
+{
+    let mut name = ChunkName::new();
+    name.try_extend_from_slice(bytes).unwrap();
+    name
 }

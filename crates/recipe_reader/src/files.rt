@@ -41,10 +41,15 @@ impl FileList {
         self.names.len()
     }
 
-    /// The number of a name.
+    /// The number of a name. The last name is looked at first, since the rows of a file mostly stand together.
     pub(crate) fn find(&self, name: &str) -> Option<usize>
         ensures { IsNumberOf (is_named name.now) self.now result }
     {
+        if let Some(last) = self.names.last() {
+            if name == last.as_str() {
+                return Some(self.names.len() - 1);
+            }
+        }
         self.names.get_index_of(name)
     }
 

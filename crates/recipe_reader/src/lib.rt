@@ -5,6 +5,7 @@ mod by_file;
 mod chunks;
 pub mod error;
 mod files;
+mod grouped;
 mod pairs;
 pub mod reading;
 pub mod recipe;

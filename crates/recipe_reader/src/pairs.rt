@@ -1,34 +1,50 @@
 // The pairs of a recipe: a file's number and a chunk's number.
-ghost use Rattle.std.specs.Prelude.{◌≡◌, ◌<◌, ◌∷◌, ◌++◌, [], List, ℕ, length, false, OnOk, OnErr};
+ghost use Rattle.std.specs.Prelude.{◌≡◌, ◌<◌, ◌≤◌, ◌∷◌, ◌++◌, [], length, false, IfErr, OnOk, OnErr};
 ghost use Rattle.std.specs.List.{list_any};
-ghost use Rattle.recipe_reader.specs.Recipes.{is_pair};
+ghost use Rattle.recipe_reader.specs.Recipes.{is_pair, with_new};
 
+use crate::grouped::{GroupedPairs, stands_in};
 use indexmap::IndexSet;
 use seed_model::NoMemory;
+use seed_model::limits::MOST_PAIRS;
 use std::alloc::Global;
 use std::marker::Model;
 
-/// Distinct pairs, by first appearance.
+/// Why a pair is not added.
+#[derive(Clone, Copy, Debug, PartialEq, Eq)]
+pub(crate) enum PairError {
+    /// There are as many pairs as a recipe may have.
+    Full,
+    /// Memory ran out.
+    Memory,
+}
+
+/// Distinct pairs, by first appearance. While they come file by file they are grouped; from the first pair of an earlier
+/// file on they are a set.
 #[derive(Drop)]
 pub(crate) struct PairList {
-    pairs: IndexSet<(u32, u32)>,
+    grouped: GroupedPairs,
+    mixed: IndexSet<(u32, u32)>,
+    is_mixed: bool,
 }
 
 impl Model for PairList {
-    ghost use Rattle.std.specs.Prelude.{List, ℕ};
+    ghost use Rattle.std.specs.Prelude.{List, ℕ, if◌then◌else◌};
 
     ghost Value = { List (ℕ × ℕ) };
 
-    ghost view = { λ a. a.pairs.keys };
+    ghost view = { λ a. if a.is_mixed then a.mixed.keys else a.grouped };
 }
 
 impl PairList {
-    /// No pairs.
-    pub(crate) fn new(alloc: Global) -> Self
+    /// No pairs, with room ahead for so many where there is memory for that.
+    pub(crate) fn with_room(alloc: Global, count: usize) -> Self
         ensures { result ≡ [] }
     {
         PairList {
-            pairs: IndexSet::new(alloc),
+            grouped: GroupedPairs::with_room(alloc, count),
+            mixed: IndexSet::new(alloc),
+            is_mixed: false,
         }
     }
 
@@ -36,21 +52,52 @@ impl PairList {
     pub(crate) fn as_slice(&self) -> &[(u32, u32)]
         ensures { result.now ≡ self.now }
     {
-        self.pairs.as_slice()
+        if self.is_mixed {
+            return self.mixed.as_slice();
+        }
+        self.grouped.as_slice()
     }
 
     /// How many pairs there are.
     pub(crate) fn len(&self) -> usize
         ensures { result ≡ length self.now }
     {
-        self.pairs.len()
+        self.as_slice().len()
     }
 
     /// Whether this pair is among them.
-    pub(crate) fn contains(&self, file: u32, chunk: u32) -> bool
+    fn contains(&self, file: u32, chunk: u32) -> bool
         ensures { result ≡ list_any (is_pair file chunk) self.now }
     {
-        self.pairs.contains(&(file, chunk))
+        if self.is_mixed {
+            return self.mixed.contains(&(file, chunk));
+        }
+        if self.grouped.is_last(file) {
+            return self.grouped.contains(file, chunk);
+        }
+        stands_in(self.grouped.as_slice(), file, chunk)
+    }
+
+    /// Puts a pair last where it is new, unless there are as many pairs as a recipe may have.
+    pub(crate) fn add(&mut self, file: u32, chunk: u32) -> Result<(), PairError>
+        ensures ok { OnOk result (self.new ≡ with_new (is_pair file chunk) self.old (file, chunk)) }
+        ensures room { OnOk result (list_any (is_pair file chunk) self.old ≡ false → length self.old < MOST_PAIRS) }
+        ensures err { OnErr result (self.new ≡ self.old) }
+        ensures new { OnErr result (list_any (is_pair file chunk) self.old ≡ false) }
+        ensures full { IfErr result (λ e. e ≡ PairError.Full → MOST_PAIRS ≤ length self.old) }
+        ensures memory { IfErr result (λ e. e ≡ PairError.Memory → length self.old < MOST_PAIRS) }
+    {
+        self.mix_before(file);
+        if self.contains(file, chunk) {
+            return Ok(());
+        }
+        if self.len() >= MOST_PAIRS as usize {
+            return Err(PairError::Full);
+        }
+        match self.push(file, chunk) {
+            Ok(()) => Ok(()),
+            Err(NoMemory) => Err(PairError::Memory),
+        }
     }
 
     /// Puts a new pair last.
@@ -59,16 +106,29 @@ impl PairList {
         ensures ok { OnOk result (self.new ≡ self.old ++ (file, chunk) ∷ []) }
         ensures err { OnErr result (self.new ≡ self.old) }
     {
-        let Ok(_) = self.pairs.insert((file, chunk)) else {
-            return Err(NoMemory);
-        };
-        Ok(())
+        self.mix_before(file);
+        if self.is_mixed {
+            self.mixed.insert((file, chunk))?;
+            return Ok(());
+        }
+        if self.grouped.is_last(file) {
+            return self.grouped.push(file, chunk);
+        }
+        Err(NoMemory)
     }
 
-    /// Takes the last pair away.
-    pub(crate) fn forget_last(&mut self)
-        ensures { (front : List (ℕ × ℕ)) (pair : ℕ × ℕ) → self.old ≡ front ++ pair ∷ [] → self.new ≡ front }
+    /// Makes a set of pairs that are grouped, before one of an earlier file; where there is no memory, they stay.
+    fn mix_before(&mut self, file: u32)
+        ensures { self.new ≡ self.old }
     {
-        let _ = self.pairs.pop();
+        if self.is_mixed || self.grouped.is_last(file) {
+            return;
+        }
+        let alloc = *self.mixed.allocator();
+        if let Ok(set) = self.grouped.to_set(alloc) {
+            self.mixed = set;
+            self.is_mixed = true;
+            self.grouped = GroupedPairs::with_room(alloc, 0);
+        }
     }
 }

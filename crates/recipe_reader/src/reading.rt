@@ -1,15 +1,17 @@
 // Recipes from rows of text.
-ghost use Rattle.std.specs.Prelude.{◌≡◌, ◌≢◌, ◌≤◌, [], List, ℕ, length, slice_index_or, IfOk, IfErr, OnOk};
+ghost use Rattle.std.specs.Prelude.{◌≡◌, ◌≢◌, ◌<◌, ◌≤◌, [], List, ℕ, length, slice_index_or, IfOk, IfErr, OnOk};
 ghost use Rattle.csv.specs.Records.{fields_of};
 ghost use Rattle.csv_rows.specs.Rows.{rows_of};
 ghost use Rattle.file_names.specs.FileNames.{IsFileName};
 ghost use Rattle.recipe_reader.specs.Appearance.{IsGathered};
+ghost use Rattle.recipe_reader.specs.Lawful.{IsChunkName};
 ghost use Rattle.recipe_reader.specs.Parts.{IsRowFault, fault_at, row_of};
 ghost use Rattle.recipe_reader.specs.Reading.{IsFault, IsFirstFault, Leads, MayFollow, TakesRow};
 ghost use Rattle.recipe_reader.specs.Recipes.{RecipeValue, empty_recipe};
 ghost use Rattle.recipe_reader.specs.Rows.{with_row};
 
-use crate::error::{AddError, GREATEST_SIZE, LONGEST_CHUNK_NAME, RecipeError};
+use crate::chunks::ChunkName;
+use crate::error::{AddError, GREATEST_SIZE, RecipeError};
 use crate::recipe::Recipe;
 use crate::row::{field, read_chunk_name, read_size};
 use csv::ByteRecord;
@@ -25,7 +27,7 @@ pub fn read_recipe(alloc: Global, text: &[u8]) -> Result<Recipe, RecipeError>
 {
     let mut rows = RowReader::new(alloc, text);
     let mut row = ByteRecord::new(alloc);
-    let mut recipe = Recipe::new(alloc);
+    let mut recipe = Recipe::with_room(alloc, text.len());
     for before in 0..u64::MAX {
         let Ok(found) = rows.next_row(&mut row) else {
             return Err(RecipeError::Memory);
@@ -56,7 +58,7 @@ fn take_row(recipe: &mut Recipe, number: u64, row: &ByteRecord) -> Result<(), Re
     let Some(size) = read_size(text, field(row, 2)) else {
         return Err(RecipeError::BadSize { row: number });
     };
-    add_row(recipe, number, file, name.as_slice(), size)
+    add_row(recipe, number, file, name, size)
 }
 
 // Adds what a row says: a file, and that it uses a chunk, if one is named.
@@ -64,20 +66,20 @@ fn add_row(
     recipe: &mut Recipe,
     number: u64,
     file: &str,
-    name: &[u8],
+    name: ChunkName,
     size: u64,
 ) -> Result<(), RecipeError>
     requires file { IsFileName file.now }
-    requires name { length name.now ≤ LONGEST_CHUNK_NAME }
+    requires name { 0 < length name.items → IsChunkName name.items }
     requires size { size ≤ GREATEST_SIZE }
-    ensures ok { OnOk result (recipe.new ≡ with_row recipe.old (row_of file.now name.now size)) }
-    ensures follows { OnOk result (MayFollow recipe.old (row_of file.now name.now size)) }
-    ensures fault { IfErr result (λ e. e ≢ RecipeError.Memory → IsRowFault recipe.old number (row_of file.now name.now size) e) }
+    ensures ok { OnOk result (recipe.new ≡ with_row recipe.old (row_of file.now name.items size)) }
+    ensures follows { OnOk result (MayFollow recipe.old (row_of file.now name.items size)) }
+    ensures fault { IfErr result (λ e. e ≢ RecipeError.Memory → IsRowFault recipe.old number (row_of file.now name.items size) e) }
 {
     let file = match recipe.add_file(file) {
         Ok(file) => file,
         Err(fault) => {
-            if let Some(first) = recipe.other_size(name, size) {
+            if let Some(first) = recipe.other_size(&name, size) {
                 return Err(RecipeError::SizeClash {
                     row: number,
                     first,
@@ -90,17 +92,18 @@ fn add_row(
     if name.is_empty() {
         return Ok(());
     }
-    match recipe.add_pair(file, name, size) {
+    match recipe.add_named(file, name, size) {
         Ok(()) => Ok(()),
         Err(fault) => Err(at_row(number, fault)),
     }
 }
 
 /// What rows that lead to a recipe make of it: its files, chunks and pairs are those that the rows name, by first
-/// appearance, and each row has its chunk's size. Rows lead to one recipe, and then have no fault.
+/// appearance, and each row has its chunk's size. Rows lead to one recipe, or have one first fault, and never both.
 pub fn recipe_laws()
     ensures gathered { (rows : List (List (List ℕ))) (recipe : RecipeValue) → Leads empty_recipe rows recipe → IsGathered rows recipe }
     ensures one { (rows : List (List (List ℕ))) (a b : RecipeValue) → Leads empty_recipe rows a → Leads empty_recipe rows b → a ≡ b }
+    ensures one_fault { (rows : List (List (List ℕ))) (a b : RecipeError) → IsFirstFault empty_recipe rows a → IsFirstFault empty_recipe rows b → a ≡ b }
     ensures no_fault { (rows : List (List (List ℕ))) (recipe : RecipeValue) (fault : RecipeError) → Leads empty_recipe rows recipe → ¬ IsFirstFault empty_recipe rows fault }
 {}
 

@@ -7,13 +7,20 @@ ghost use Rattle.recipe_reader.specs.Lawful.{IsChunkName, IsRecipe};
 ghost use Rattle.recipe_reader.specs.Limits.{KeepsSize};
 ghost use Rattle.recipe_reader.specs.Recipes.{empty_recipe, bytes_of, name_at, size_at, is_named, is_chunk, is_pair, file_number, chunk_number, with_file, with_use, with_pair};
 
-use crate::chunks::ChunkList;
+use crate::chunks::{ChunkList, ChunkName, name_of};
 use crate::error::{AddError, GREATEST_SIZE, LONGEST_CHUNK_NAME, What};
 use crate::files::FileList;
-use crate::pairs::PairList;
+use crate::pairs::{PairError, PairList};
 use seed_model::limits::{MOST_BYTES, MOST_CHUNKS, MOST_FILES, MOST_PAIRS};
 use std::alloc::Global;
 use std::marker::Model;
+
+// The bytes of text for which room is made ahead for one pair: a row that names a chunk is seldom shorter. Where rows are
+// shorter, the room grows once; where it were more than is used, look-ups would be slower.
+const BYTES_A_PAIR: usize = 32;
+
+// The bytes of text for which room is made ahead for one chunk: as a rule a chunk has a few users, and a row for each.
+const BYTES_A_CHUNK: usize = 128;
 
 /// Files and chunks, each numbered from 0 by first appearance, and the pairs of a file and a chunk that it uses.
 #[derive(Drop)]
@@ -42,10 +49,19 @@ impl Recipe {
     pub fn new(alloc: Global) -> Self
         ensures { result ≡ empty_recipe }
     {
+        Recipe::with_room(alloc, 0)
+    }
+
+    /// A recipe without files, with room ahead for what a text of so many bytes may say, where there is memory for that.
+    pub(crate) fn with_room(alloc: Global, bytes: usize) -> Self
+        ensures { result ≡ empty_recipe }
+    {
+        let chunks = (bytes / BYTES_A_CHUNK).min(MOST_CHUNKS as usize);
+        let pairs = (bytes / BYTES_A_PAIR).min(MOST_PAIRS as usize);
         Recipe {
             files: FileList::new(alloc),
-            chunks: ChunkList::new(alloc),
-            pairs: PairList::new(alloc),
+            chunks: ChunkList::with_room(alloc, chunks),
+            pairs: PairList::with_room(alloc, pairs),
             total: 0,
         }
     }
@@ -133,10 +149,10 @@ impl Recipe {
     }
 
     /// The size of the chunk with this name, where it is there with another one.
-    pub(crate) fn other_size(&self, chunk: &[u8], size: u64) -> Option<u64>
-        ensures some { IfSome result (λ first. (first ≢ size) × Contains self.now.chunks (record { name = chunk.now; size = first })) }
-        ensures named { OnSome result (0 < length chunk.now) }
-        ensures none { IfNone result (KeepsSize self.now (Some (record { name = chunk.now; size = size }))) }
+    pub(crate) fn other_size(&self, chunk: &ChunkName, size: u64) -> Option<u64>
+        ensures some { IfSome result (λ first. (first ≢ size) × Contains self.now.chunks (record { name = chunk.now.items; size = first })) }
+        ensures named { OnSome result (0 < length chunk.now.items) }
+        ensures none { IfNone result (KeepsSize self.now (Some (record { name = chunk.now.items; size = size }))) }
     {
         match self.chunks.find(chunk) {
             Some((_, first)) => {
@@ -163,7 +179,27 @@ impl Recipe {
         ensures recipe { IsRecipe self.new }
         ensures known { list_any (is_pair file (chunk_number self.old.chunks chunk.now)) self.old.pairs ≡ true → KeepsSize self.old (Some (record { name = chunk.now; size = size })) → IsOk result }
     {
-        match self.chunks.find(chunk) {
+        self.add_named(file, name_of(chunk), size)
+    }
+
+    /// The same, of a name as it is kept.
+    pub(crate) fn add_named(
+        &mut self,
+        file: u32,
+        chunk: ChunkName,
+        size: u64,
+    ) -> Result<(), AddError>
+        requires file { file < length self.old.files }
+        requires name { IsChunkName chunk.items }
+        requires size { size ≤ GREATEST_SIZE }
+        ensures ok { OnOk result (self.new ≡ with_pair self.old file (record { name = chunk.items; size = size })) }
+        ensures keeps { OnOk result (KeepsSize self.old (Some (record { name = chunk.items; size = size }))) }
+        ensures fault { IfErr result (IsPairFault self.old file (record { name = chunk.items; size = size })) }
+        ensures err { OnErr result (self.new ≡ self.old) }
+        ensures recipe { IsRecipe self.new }
+        ensures known { list_any (is_pair file (chunk_number self.old.chunks chunk.items)) self.old.pairs ≡ true → KeepsSize self.old (Some (record { name = chunk.items; size = size })) → IsOk result }
+    {
+        match self.chunks.find(&chunk) {
             Some((number, first)) => {
                 if first != size {
                     return Err(AddError::Clash { first, now: size });
@@ -184,26 +220,20 @@ impl Recipe {
         ensures recipe { IsRecipe self.new }
         ensures known { list_any (is_pair file chunk) self.old.pairs ≡ true → IsOk result }
     {
-        if self.pairs.contains(file, chunk) {
-            return Ok(());
+        match self.pairs.add(file, chunk) {
+            Ok(()) => Ok(()),
+            Err(error) => Err(not_added(error)),
         }
-        if self.pairs.len() >= MOST_PAIRS as usize {
-            return Err(AddError::TooMany(What::Pairs));
-        }
-        let Ok(()) = self.pairs.push(file, chunk) else {
-            return Err(AddError::Memory);
-        };
-        Ok(())
     }
 
     // Puts a new chunk last, with the file as its first user.
-    fn add_chunk(&mut self, file: u32, name: &[u8], size: u64) -> Result<(), AddError>
+    fn add_chunk(&mut self, file: u32, name: ChunkName, size: u64) -> Result<(), AddError>
         requires file { file < length self.old.files }
-        requires name { IsChunkName name.now }
+        requires name { IsChunkName name.items }
         requires size { size ≤ GREATEST_SIZE }
-        requires new { list_any (is_chunk name.now) self.old.chunks ≡ false }
-        ensures ok { OnOk result (self.new ≡ with_pair self.old file (record { name = name.now; size = size })) }
-        ensures fault { IfErr result (IsLimitFault (with_pair self.old file (record { name = name.now; size = size }))) }
+        requires new { list_any (is_chunk name.items) self.old.chunks ≡ false }
+        ensures ok { OnOk result (self.new ≡ with_pair self.old file (record { name = name.items; size = size })) }
+        ensures fault { IfErr result (IsLimitFault (with_pair self.old file (record { name = name.items; size = size }))) }
         ensures err { OnErr result (self.new ≡ self.old) }
         ensures recipe { IsRecipe self.new }
     {
@@ -217,14 +247,25 @@ impl Recipe {
         if self.pairs.len() >= MOST_PAIRS as usize {
             return Err(AddError::TooMany(What::Pairs));
         }
-        let Ok(()) = self.pairs.push(file, number) else {
+        let Ok(()) = self.chunks.push(name, size) else {
             return Err(AddError::Memory);
         };
-        let Ok(()) = self.chunks.push(name, size) else {
-            self.pairs.forget_last();
+        let Ok(()) = self.pairs.push(file, number) else {
+            self.chunks.forget_last();
             return Err(AddError::Memory);
         };
         self.total += size;
         Ok(())
+    }
+}
+
+// Why a pair is not added, as a recipe says it.
+fn not_added(error: PairError) -> AddError
+    ensures full { error ≡ PairError.Full → result ≡ AddError.TooMany What.Pairs }
+    ensures memory { error ≡ PairError.Memory → result ≡ AddError.Memory }
+{
+    match error {
+        PairError::Full => AddError::TooMany(What::Pairs),
+        PairError::Memory => AddError::Memory,
     }
 }

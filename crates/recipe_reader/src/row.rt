@@ -5,36 +5,10 @@ ghost use Rattle.recipe_reader.specs.Parts.{NamesChunk};
 ghost use Rattle.recipe_reader.specs.Reading.{HasChunkName, HasBadSize};
 ghost use Rattle.recipe_reader.specs.Rows.{SpellsSize};
 
+use crate::chunks::ChunkName;
 use crate::error::{GREATEST_SIZE, LONGEST_CHUNK_NAME};
 use csv::ByteRecord;
 use seed_model::read_number;
-use std::marker::Model;
-
-/// The bytes of a chunk's name, at most 64; none where a row names no chunk.
-#[derive(Drop)]
-pub(crate) struct ChunkName {
-    bytes: [u8; LONGEST_CHUNK_NAME],
-    len: usize,
-}
-
-impl Model for ChunkName {
-    ghost use Rattle.std.specs.Prelude.{◌≤◌, List, ℕ, take};
-
-    ghost Value = { List ℕ };
-
-    ghost view = { λ n. take n.len n.bytes };
-
-    ghost invariant = { λ n. n.len ≤ 64 };
-}
-
-impl ChunkName {
-    /// The bytes.
-    pub(crate) fn as_slice(&self) -> &[u8]
-        ensures { result.now ≡ self.now }
-    {
-        &self.bytes[..self.len]
-    }
-}
 
 /// The field at a place, counted from 0.
 pub(crate) fn field(row: &ByteRecord, place: usize) -> &[u8]
@@ -46,16 +20,17 @@ pub(crate) fn field(row: &ByteRecord, place: usize) -> &[u8]
 
 /// The name that a text of pairs of hex digits spells, 1 to 64 bytes; or no bytes where the text is empty.
 pub(crate) fn read_chunk_name(text: &[u8]) -> Option<ChunkName>
-    ensures found { IfSome result (NamesChunk text.now) }
+    ensures found { IfSome result (λ name. NamesChunk text.now name.items) }
     ensures none { IfNone result (¬ HasChunkName text.now) }
 {
     let len = text.len() / 2;
     if len > LONGEST_CHUNK_NAME {
         return None;
     }
-    let mut bytes = [0; LONGEST_CHUNK_NAME];
-    match hex::decode_to_slice(text, &mut bytes[..len]) {
-        Ok(()) => Some(ChunkName { bytes, len }),
+    let mut name = ChunkName::from([0; LONGEST_CHUNK_NAME]);
+    name.truncate(len);
+    match hex::decode_to_slice(text, name.as_mut_slice()) {
+        Ok(()) => Some(name),
         Err(_) => None,
     }
 }

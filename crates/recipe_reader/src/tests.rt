@@ -1,6 +1,7 @@
 // Worked texts, with the values that stand in the format's description.
-use crate::{AddError, Recipe, RecipeError, read_recipe, write_recipe};
+use crate::{AddError, Recipe, RecipeError, What, read_recipe, write_recipe};
 use file_names::is_file_name;
+use seed_model::write_number;
 use std::alloc::Global;
 use std::test::Fail;
 
@@ -104,6 +105,56 @@ fn writes_file_by_file(rt: HostRuntime) -> Result<(), Fail> {
         let recipe = read_recipe(rt.alloc(), text)?;
         let written = write_recipe(rt.alloc(), &recipe)?;
         assert_eq!(rt; written.as_slice(), want);
+    }
+    Ok(())
+}
+
+/// The rows of a file with 262,144 chunks of the greatest size and one of 262,143 bytes.
+fn largest_total(alloc: Global) -> Result<Vec<u8>, Fail> {
+    let mut text = Vec::new(alloc);
+    for chunk in 0..262_144u32 {
+        text.extend_from_slice(b"a,")?;
+        write_number(10_000_000 + chunk as u128, &mut text)?;
+        text.extend_from_slice(b",4294967295\n")?;
+    }
+    text.extend_from_slice(b"a,00,262143\n")?;
+    Ok(text)
+}
+
+#[test]
+fn bounds_the_total(rt: HostRuntime) -> Result<(), Fail> {
+    let mut text = largest_total(rt.alloc())?;
+    let recipe = read_recipe(rt.alloc(), text.as_slice())?;
+    assert_eq!(rt; recipe.chunks(), 262_145);
+    assert_eq!(rt; recipe.total(), 1_125_899_906_842_623);
+    text.extend_from_slice(b"a,01,1\n")?;
+    let over = RecipeError::TooMany {
+        row: 262_146,
+        what: What::Bytes,
+    };
+    assert_eq!(rt; fault_of(rt.alloc(), text.as_slice()), Some(over));
+    Ok(())
+}
+
+#[test]
+fn reads_rows_in_any_order(rt: HostRuntime) -> Result<(), Fail> {
+    let cases = [
+        (
+            b"a,01,1\nb,01,1\nb,02,2\nb,01,1\na,01,1\na,02,2\nb,02,2\nc,01,1\na,02,2\n".as_slice(),
+            [(0, 0), (1, 0), (1, 1), (0, 1), (2, 0)].as_slice(),
+        ),
+        (
+            b"a,01,1\nb,02,2\na,03,3\nb,03,3\nb,04,4\na,03,3\n".as_slice(),
+            [(0, 0), (1, 1), (0, 2), (1, 2), (1, 3)].as_slice(),
+        ),
+        (
+            b"a,,0\nb,01,1\na,01,1\nb,01,1\n".as_slice(),
+            [(1, 0), (0, 0)].as_slice(),
+        ),
+    ];
+    for (text, pairs) in cases {
+        let recipe = read_recipe(rt.alloc(), text)?;
+        assert_eq!(rt; recipe.pairs(), pairs);
     }
     Ok(())
 }

@@ -1,5 +1,6 @@
 use Rattle.recipe_reader.specs.Recipes.{empty_recipe}
 use Rattle.recipe_reader.proofs.Gathering.{gathered}
+use Rattle.recipe_reader.proofs.OneFault.{one_fault}
 use Rattle.recipe_reader.proofs.OneMeaning.{no_fault, one_recipe}
 use Rattle.recipe_reader.proofs.reading.recipe_laws.Goals as goal
 
@@ -7,5 +8,6 @@ pub returns : goal.returns
 returns c = record {
   gathered = gathered;
   one = λ rows a b. one_recipe rows empty_recipe a b;
+  one_fault = λ rows a b. one_fault rows a b;
   no_fault = λ rows recipe fault. no_fault rows empty_recipe recipe fault;
 }

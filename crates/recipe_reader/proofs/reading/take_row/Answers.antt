@@ -5,7 +5,7 @@ use Rattle.recipe_reader.specs.Parts.{IsRowFault, row_of}
 use Rattle.recipe_reader.specs.Reading.{IsFault}
 use Rattle.recipe_reader.specs.Rows.{SpellsRow}
 use Rattle.recipe_reader.specs.declared.error.RecipeError.TheVariants.{Memory}
-use Rattle.recipe_reader.proofs.Fields.{three_fields}
+use Rattle.recipe_reader.proofs.Fields.{named_lawful, three_fields}
 use Rattle.recipe_reader.proofs.RowsTaken.{row_fault, spells_fields, takes_row}
 use Rattle.recipe_reader.proofs.reading.take_row.Goals as goal
 
@@ -32,19 +32,22 @@ returns-in_default-read_chunk_name-clause-fault c = λ other.
 
 pub returns-clause-ok : goal.returns-clause-ok
 returns-clause-ok c =
-    let row = row_of c.in-Some.file.now c.as_slice.result.now c.in-Some-read_size.size in
+    let row = row_of c.in-Some.file.now c.in-Some-read_chunk_name.name.items c.in-Some-read_size.size in
     let spelled : SpellsRow (fields_of c.args.row.now) row =
-    spells_fields (fields_of c.args.row.now) c.field.result.now c.field-text.result.now c.field-2.result.now c.in-Some.file.now c.in-Some-read_chunk_name.name c.as_slice.result.now
-    c.in-Some-read_size.size (search rules) c.field.ensures c.field-text.ensures c.field-2.ensures c.in-Some.ensures.same.0 c.in-Some.ensures.same.1 c.as_slice.ensures
+    spells_fields (fields_of c.args.row.now) c.field.result.now c.field-text.result.now c.field-2.result.now c.in-Some.file.now c.in-Some-read_chunk_name.name.items c.in-Some-read_chunk_name.name.items
+    c.in-Some-read_size.size (search rules) c.field.ensures c.field-text.ensures c.field-2.ensures c.in-Some.ensures.same.0 c.in-Some.ensures.same.1 refl
     c.in-Some-read_chunk_name.ensures.found c.in-Some-read_size.ensures.found c.in-Some-read_size.ensures.unnamed in
     takes_row c.add_row.result c.args.recipe.now c.add_row.new.recipe (fields_of c.args.row.now) row spelled c.add_row.ensures.ok c.add_row.ensures.follows
 
 pub returns-clause-fault : goal.returns-clause-fault
 returns-clause-fault c =
-    let row = row_of c.in-Some.file.now c.as_slice.result.now c.in-Some-read_size.size in
+    let row = row_of c.in-Some.file.now c.in-Some-read_chunk_name.name.items c.in-Some-read_size.size in
     let spelled : SpellsRow (fields_of c.args.row.now) row =
-    spells_fields (fields_of c.args.row.now) c.field.result.now c.field-text.result.now c.field-2.result.now c.in-Some.file.now c.in-Some-read_chunk_name.name c.as_slice.result.now
-    c.in-Some-read_size.size (search rules) c.field.ensures c.field-text.ensures c.field-2.ensures c.in-Some.ensures.same.0 c.in-Some.ensures.same.1 c.as_slice.ensures
+    spells_fields (fields_of c.args.row.now) c.field.result.now c.field-text.result.now c.field-2.result.now c.in-Some.file.now c.in-Some-read_chunk_name.name.items c.in-Some-read_chunk_name.name.items
+    c.in-Some-read_size.size (search rules) c.field.ensures c.field-text.ensures c.field-2.ensures c.in-Some.ensures.same.0 c.in-Some.ensures.same.1 refl
     c.in-Some-read_chunk_name.ensures.found c.in-Some-read_size.ensures.found c.in-Some-read_size.ensures.unnamed in
     IfErr-weaker c.add_row.result (λ e. e ≢ Memory → IsRowFault c.args.recipe.now c.args.number row e) (λ e. e ≢ Memory → IsFault c.args.recipe.now c.args.number (fields_of c.args.row.now) e)
     (λ e h other. row_fault c.args.recipe.now c.args.number (fields_of c.args.row.now) row e spelled (h other)) c.add_row.ensures.fault
+
+pub add_row-requires-clause-name : goal.add_row-requires-clause-name
+add_row-requires-clause-name c = named_lawful c.field-text.result.now c.in-Some-read_chunk_name.name.items c.in-Some-read_chunk_name.ensures.found

@@ -1,5 +1,5 @@
 use Rattle.std.specs.Prelude.{map, codes, OnOk}
-use Rattle.std.proofs.Common.{◌≡◌, ◌≢◌, ◌<◌, ◌≤◌, ◌∙◌, ◌∷◌, ◌++◌, [], ap, sym, subst, refl, List, ℕ, length, take, get_or, arith, append_assoc}
+use Rattle.std.proofs.Common.{◌≡◌, ◌∙◌, ◌∷◌, ◌++◌, [], ap, sym, subst, refl, List, ℕ, length, take, get_or, append_assoc}
 use Rattle.std.proofs.lemmas.Bool.{eqb-true, eqb-false}
 use Rattle.std.proofs.lemmas.List.{append-nil, get_or_default, nil_from_length, take_all}
 use Rattle.csv.specs.Writing.{default_writer, row_text}
@@ -18,7 +18,7 @@ returns-then-is_empty c =
     let one : rows_text (file_rows c.args.recipe.now c.args.file c.args.chunks.now) ≡ row_text default_writer fields =
     ap (λ (t : List ℕ). rows_text (file_rows c.args.recipe.now c.args.file t)) none ∙ rows_text-one fields in
     let Written : List ℕ → Type 0 = λ t. OnOk c.row.result (c.row.new.self ≡ c.args.writer.now ++ t) in
-    subst Written (ap (row_text default_writer) same ∙ sym one) c.row.ensures
+    subst Written (ap (row_text default_writer) same ∙ sym one) c.row.ensures.ok
 
 pub loop-chunk-init : goal.loop-chunk-init
 loop-chunk-init c = sym (ap (λ (t : List ℕ). c.args.writer.now ++ t) nothing ∙ append-nil c.args.writer.now)

@@ -1,6 +1,6 @@
 use Rattle.std.specs.Prelude.{All, map}
-use Rattle.std.proofs.Common.{◌≡◌, ◌<◌, ◌∙◌, ◌∷◌, ◌++◌, [], ap, sym, subst, refl, List, ℕ, length, get_or, arith}
-use Rattle.std.specs.List.{flat_map, range_with_len}
+use Rattle.std.proofs.Common.{◌≡◌, ◌<◌, ◌∙◌, ◌++◌, [], ap, sym, subst, List, ℕ, length, get_or, arith}
+use Rattle.std.specs.List.{range_with_len}
 use Rattle.std.proofs.lemmas.List.FromFn.{length-map-range_with_len, get_or-map-range_with_len}
 use Rattle.csv_rows.specs.Rows.{rows_text}
 use Rattle.recipe_reader.specs.WrittenRows.{chunks_used, file_rows}

@@ -1,4 +1,4 @@
-use Rattle.std.proofs.Common.{◌≡◌, [], ℕ, List, replicate}
+use Rattle.std.proofs.Common.{◌≡◌, [], replicate}
 use Rattle.recipe_reader.specs.ListViews.{lists_in}
 use Rattle.recipe_reader.proofs.by_file.ChunksByFile.empty.Given as goal
 

@@ -1,4 +1,4 @@
-use Rattle.std.proofs.Common.{◌≡◌, ◌<◌, ◌∙◌, ◌∷◌, ◌++◌, [], ap, sym, List, ℕ, length, set, get_or, arith}
+use Rattle.std.proofs.Common.{◌≡◌, ◌∙◌, ◌∷◌, ◌++◌, [], ap, sym, length, set, arith}
 use Rattle.std.proofs.lemmas.List.{length-map}
 use Rattle.recipe_reader.specs.ListViews.{lists_in}
 use Rattle.recipe_reader.proofs.Groups.{lists_in-set, lists_in-at}
