@@ -1,4 +1,4 @@
-//! Makes a layered net like those of the planner, and runs one greatest flow on it.
+//! Makes a layered net of files and classes, and runs one greatest flow on it.
 //!
 //! `flow_bench FILES CLASSES USERS SEED`: a source, a sink, a node for each file, and for each class a charge node and
 //! a reward node; each class has so many users. One file in sixteen is pinned inside and one outside.

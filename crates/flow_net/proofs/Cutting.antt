@@ -104,6 +104,10 @@ closed_from_tight ps xs s tight i true h left at =
     by_end true h = refl
     by_end false h = h refl
 
+-- nothing can cross a tight side
+pub tight_none : (s : ℕ → Bool) (ps : List Pipe) (xs : List ℕ) → length xs ≡ length ps → IsTight s ps xs → left_across s ps xs ≡ 0
+tight_none s ps xs each tight = none_from_closed s ps xs each (closed_from_tight ps xs s tight)
+
 -- the side of any least cut is closed, where some side is
 pub least_closed :
     (ps : List Pipe) (a b : ℕ) (xs : List ℕ) (s t : ℕ → Bool) → IsCarried ps a b xs → IsSide a b s → IsClosed ps xs 1 false s →

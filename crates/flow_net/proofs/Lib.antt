@@ -8,3 +8,4 @@ pub mod Queue
 pub mod Ready
 pub mod Searching
 pub mod Trailing
+pub mod Values

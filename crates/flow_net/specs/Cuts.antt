@@ -1,6 +1,12 @@
-use Rattle.std.specs.Prelude.{◌≡◌, ℕ, ◌<◌, Bool, true, not, if◌then◌else◌, List}
+use Rattle.std.specs.Prelude.{◌≡◌, ℕ, ◌<◌, Bool, true, not, if◌then◌else◌, List, length}
+use Rattle.flow_net.specs.declared.cuts.FlowCut.{FlowCut}
 use Rattle.flow_net.specs.Nets.{NetValue}
 use Rattle.flow_net.specs.Flows.{IsLeastCut, IsTight, is_in}
+
+-- each side has a place for each of so many nodes
+pub record IsSized (nodes : ℕ) (cut : FlowCut) : Type 0 where
+  pub least : length cut.least.items ≡ nodes
+  pub greatest : length cut.greatest.items ≡ nodes
 
 -- the smallest and the largest source side of a least cut, both tight
 pub record AreSides (net : NetValue) (source sink : ℕ) (amounts : List ℕ) (least greatest : List Bool) : Type 0 where

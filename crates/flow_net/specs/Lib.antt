@@ -6,4 +6,6 @@ pub mod Moves
 pub mod Nets
 pub mod Paths
 pub mod Pushes
+pub mod Runs
 pub mod Trails
+pub mod Values

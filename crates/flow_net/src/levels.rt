@@ -3,11 +3,20 @@ ghost use Rattle.std.specs.Prelude.{◌≡◌, ◌≢◌, ℕ, ◌+◌, ◌-◌,
 ghost use Rattle.flow_net.specs.Nets.{IsNet, pipe_at};
 ghost use Rattle.flow_net.specs.Links.{AreRows, IsLinkAt, row_of, link_at};
 ghost use Rattle.flow_net.specs.Levels.{IsQueue, IsReached, Spreads, LeadsFar, IsNext, IsSearched, level_of, unreached};
+ghost use Rattle.flow_net.specs.Runs.{AreEnds};
 
 use crate::amounts::{Filling, left};
+use crate::ends::Ends;
 use crate::links::{Link, Rows};
 use crate::network::Net;
 use crate::pipes::{Pipe, Use};
+
+/// What a search looks at: uses that can carry at least so much more, along their way or, backward, against it.
+#[derive(Clone, Copy)]
+pub(crate) struct Sought {
+    pub power: u128,
+    pub backward: bool,
+}
 
 /// The level of a node that no search reached.
 pub(crate) const UNREACHED: u32 = u32::MAX;
@@ -26,8 +35,7 @@ fn clear(levels: &mut [u32])
 fn cross(
     pipes: &[Pipe],
     filling: &Filling,
-    power: u128,
-    backward: bool,
+    sought: Sought,
     link: Link,
     level: u32,
     levels: &mut [u32],
@@ -41,15 +49,16 @@ fn cross(
     requires level { level + 1 ≤ count }
     requires queue { IsQueue (length levels.old) levels.old queue.old count }
     ensures queue { IsQueue (length levels.old) levels.new queue.new result }
-    ensures spreads { Spreads (λ v. (link.far ≡ v) × LeadsFar pipes.now filling.now.amounts power backward link) level levels.old levels.new
-        queue.old queue.new count result }
-    ensures crossed { LeadsFar pipes.now filling.now.amounts power backward link → IsReached levels.new link.far }
+    ensures spreads { Spreads (λ v. (link.far ≡ v) × LeadsFar pipes.now filling.now.amounts sought.power sought.backward link)
+        level levels.old levels.new queue.old queue.new count result }
+    ensures crossed { LeadsFar pipes.now filling.now.amounts sought.power sought.backward link →
+        IsReached levels.new link.far }
 {
     let step = Use {
         pipe: link.pipe,
-        back: link.back != backward,
+        back: link.back != sought.backward,
     };
-    if levels[link.far as usize] == UNREACHED && power <= left(pipes, filling, step) {
+    if levels[link.far as usize] == UNREACHED && sought.power <= left(pipes, filling, step) {
         levels[link.far as usize] = level + 1;
         queue[count] = link.far;
         return count + 1;
@@ -61,8 +70,7 @@ fn cross(
 fn spread(
     pipes: &[Pipe],
     filling: &Filling,
-    power: u128,
-    backward: bool,
+    sought: Sought,
     row: &[Link],
     level: u32,
     levels: &mut [u32],
@@ -77,64 +85,52 @@ fn spread(
     requires level { level + 1 ≤ count }
     requires queue { IsQueue (length levels.old) levels.old queue.old count }
     ensures queue { IsQueue (length levels.old) levels.new queue.new result }
-    ensures spreads { Spreads (IsNext pipes.now filling.now.amounts power backward row.now (length row.now)) level levels.old levels.new
-        queue.old queue.new count result }
-    ensures crossed { (k : ℕ) → k < length row.now → LeadsFar pipes.now filling.now.amounts power backward (link_at row.now k) →
+    ensures spreads { Spreads (IsNext pipes.now filling.now.amounts sought.power sought.backward row.now (length row.now))
+        level levels.old levels.new queue.old queue.new count result }
+    ensures crossed { (k : ℕ) → k < length row.now →
+        LeadsFar pipes.now filling.now.amounts sought.power sought.backward (link_at row.now k) →
         IsReached levels.new (link_at row.now k).far }
 {
     let mut filled = count;
     for link in row {
-        filled = cross(
-            pipes, filling, power, backward, *link, level, levels, queue, filled,
-        );
+        filled = cross(pipes, filling, sought, *link, level, levels, queue, filled);
     }
     filled
 }
 
-/// Searches by breadth from a node over links with enough left, up to the level at which the goal is reached. It says
-/// whether the goal was reached. The goal's own links are not followed.
+/// Searches by breadth from the source over links with enough left, up to the level at which the sink is reached. It
+/// says whether the sink was reached. The sink's own links are not followed. A search back from the sink of a net takes
+/// the net's ends changed over.
 pub(crate) fn search(
     net: &Net,
     rows: &Rows,
     filling: &Filling,
-    power: u128,
-    backward: bool,
-    start: u32,
-    goal: u32,
+    sought: Sought,
+    ends: Ends,
     levels: &mut [u32],
     queue: &mut [u32],
 ) -> bool
     requires of_net { length filling.now.amounts ≡ length net.now.pipes }
     requires rows { AreRows net.now rows.now }
-    requires start { start < net.now.nodes }
-    requires goal { goal < net.now.nodes }
-    requires apart { start ≢ goal }
+    requires ends { AreEnds net.now ends }
     requires levels { length levels.old ≡ net.now.nodes }
     requires queue { length queue.old ≡ net.now.nodes }
-    ensures { IsSearched net.now.pipes filling.now.amounts power backward start goal levels.new result }
+    ensures { IsSearched net.now.pipes filling.now.amounts sought.power sought.backward
+        ends.source ends.sink levels.new result }
 {
     let pipes = net.pipes();
     clear(levels);
-    levels[start as usize] = 0;
-    queue[0] = start;
+    levels[ends.source as usize] = 0;
+    queue[0] = ends.source;
     let mut count = 1;
     let mut head = 0;
     while head < count {
         let node = queue[head];
         let level = levels[node as usize];
-        count = spread(
-            pipes,
-            filling,
-            power,
-            backward,
-            rows.row(node),
-            level,
-            levels,
-            queue,
-            count,
-        );
+        let row = rows.row(node);
+        count = spread(pipes, filling, sought, row, level, levels, queue, count);
         head += 1;
-        if levels[goal as usize] != UNREACHED {
+        if levels[ends.sink as usize] != UNREACHED {
             return true;
         }
     }

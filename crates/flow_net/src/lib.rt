@@ -4,17 +4,21 @@
 pub mod amounts;
 pub mod counter;
 pub mod cuts;
+mod ends;
+pub mod laws;
 mod levels;
 mod links;
 pub mod network;
 mod phases;
 pub mod pipes;
 mod powers;
+mod scratch;
 mod trails;
 
 pub use amounts::Filling;
 pub use counter::Steps;
 pub use cuts::{FlowCut, max_flow};
+pub use laws::flow_laws;
 pub use network::Net;
 pub use pipes::{Pipe, Use};
 

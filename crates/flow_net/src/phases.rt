@@ -5,14 +5,17 @@ ghost use Rattle.flow_net.specs.Paths.{IsPath, LeadsOn, HaveLeft};
 ghost use Rattle.flow_net.specs.Links.{AreRows};
 ghost use Rattle.flow_net.specs.Levels.{IsSearched, level_of, unreached};
 ghost use Rattle.flow_net.specs.Pushes.{IsCarried, Augments};
+ghost use Rattle.flow_net.specs.Runs.{AreEnds, HasRoom};
 ghost use Rattle.flow_net.specs.Trails.{IsTrail, use_at};
 
 use crate::amounts::{Filling, left};
 use crate::counter::Steps;
-use crate::levels::search;
+use crate::ends::Ends;
+use crate::levels::{Sought, search};
 use crate::links::Rows;
 use crate::network::Net;
 use crate::pipes::{Pipe, Use};
+use crate::scratch::Scratch;
 use crate::trails::find_path;
 use std::sync::ledger::Ledger;
 
@@ -62,37 +65,37 @@ fn rewind(next: &mut [u32])
 fn phase<L: Ledger>(
     net: &Net,
     rows: &Rows,
+    ends: Ends,
     power: u128,
-    source: u32,
-    sink: u32,
     limit: u64,
-    levels: &[u32],
-    next: &mut [u32],
-    path: &mut [Use],
+    scratch: &mut Scratch,
     filling: &mut Filling,
     steps: &mut Steps<L>,
 )
     requires rows { AreRows net.now rows.now }
-    requires source { source < net.now.nodes }
-    requires sink { sink < net.now.nodes }
-    requires apart { source ≢ sink }
+    requires ends { AreEnds net.now ends }
     requires power { 1 ≤ power }
     requires few { limit ≤ 2 ^ 62 }
-    requires room { filling.old.pushes < limit }
-    requires levels { length levels.now ≡ net.now.nodes }
-    requires next { length next.old ≡ net.now.nodes }
-    requires depth { length path.old ≡ level_of levels.now sink }
-    requires searched { IsSearched net.now.pipes filling.old.amounts power false source sink levels.now true }
-    requires carried { IsCarried net.now.pipes source sink filling.old.amounts }
-    ensures carried { IsCarried net.now.pipes source sink filling.new.amounts }
-    ensures augments { Augments net.now.pipes source sink power filling.old filling.new }
+    requires left { filling.old.pushes < limit }
+    requires room { HasRoom net.now.nodes scratch.old }
+    requires searched { IsSearched net.now.pipes filling.old.amounts power false
+        ends.source ends.sink scratch.old.levels.items true }
+    requires carried { IsCarried net.now.pipes ends.source ends.sink filling.old.amounts }
+    ensures room { HasRoom net.now.nodes scratch.new }
+    ensures carried { IsCarried net.now.pipes ends.source ends.sink filling.new.amounts }
+    ensures augments { Augments net.now.pipes ends.source ends.sink power filling.old filling.new }
     ensures more { filling.old.pushes < filling.new.pushes }
     ensures upto { filling.new.pushes ≤ limit }
     ensures steps { steps.new + filling.old.pushes ≡ steps.old + filling.new.pushes }
 {
+    let levels: &[u32] = &scratch.levels;
+    let next: &mut [u32] = &mut scratch.next;
+    let path: &mut [Use] = &mut scratch.path;
+    let depth = levels[ends.sink as usize] as usize;
     rewind(next);
     while filling.pushes() < limit {
-        if !find_path(net, rows, filling, power, source, sink, levels, next, path) {
+        let path = &mut path[..depth];
+        if !find_path(net, rows, filling, power, ends, levels, next, path) {
             return;
         }
         push_path(net, path, filling, steps);
@@ -104,57 +107,39 @@ fn phase<L: Ledger>(
 pub(crate) fn turn<L: Ledger>(
     net: &Net,
     rows: &Rows,
+    ends: Ends,
     power: u128,
-    source: u32,
-    sink: u32,
     limit: u64,
-    levels: &mut [u32],
-    queue: &mut [u32],
-    next: &mut [u32],
-    path: &mut [Use],
+    scratch: &mut Scratch,
     filling: &mut Filling,
     steps: &mut Steps<L>,
 ) -> bool
     requires rows { AreRows net.now rows.now }
-    requires source { source < net.now.nodes }
-    requires sink { sink < net.now.nodes }
-    requires apart { source ≢ sink }
+    requires ends { AreEnds net.now ends }
     requires power { 1 ≤ power }
     requires few { limit ≤ 2 ^ 62 }
-    requires room { filling.old.pushes ≤ limit }
-    requires levels { length levels.old ≡ net.now.nodes }
-    requires queue { length queue.old ≡ net.now.nodes }
-    requires next { length next.old ≡ net.now.nodes }
-    requires path { length path.old ≡ net.now.nodes }
-    requires carried { IsCarried net.now.pipes source sink filling.old.amounts }
-    ensures carried { IsCarried net.now.pipes source sink filling.new.amounts }
-    ensures augments { Augments net.now.pipes source sink power filling.old filling.new }
+    requires left { filling.old.pushes ≤ limit }
+    requires room { HasRoom net.now.nodes scratch.old }
+    requires carried { IsCarried net.now.pipes ends.source ends.sink filling.old.amounts }
+    ensures room { HasRoom net.now.nodes scratch.new }
+    ensures carried { IsCarried net.now.pipes ends.source ends.sink filling.new.amounts }
+    ensures augments { Augments net.now.pipes ends.source ends.sink power filling.old filling.new }
     ensures upto { filling.new.pushes ≤ limit }
     ensures steps { steps.new + filling.old.pushes ≡ steps.old + filling.new.pushes }
     ensures closed { result ≡ true →
-        IsSearched net.now.pipes filling.new.amounts power false source sink levels.new false }
+        IsSearched net.now.pipes filling.new.amounts power false ends.source ends.sink scratch.new.levels.items false }
     ensures open { result ≡ false → limit ≤ filling.new.pushes }
 {
+    let sought = Sought {
+        power,
+        backward: false,
+    };
     while filling.pushes() < limit {
-        if !search(
-            net, rows, filling, power, false, source, sink, levels, queue,
-        ) {
+        let Scratch { levels, queue, .. } = scratch;
+        if !search(net, rows, filling, sought, ends, levels, queue) {
             return true;
         }
-        let depth = levels[sink as usize] as usize;
-        phase(
-            net,
-            rows,
-            power,
-            source,
-            sink,
-            limit,
-            levels,
-            next,
-            &mut path[..depth],
-            filling,
-            steps,
-        );
+        phase(net, rows, ends, power, limit, scratch, filling, steps);
     }
     false
 }
@@ -163,34 +148,24 @@ pub(crate) fn turn<L: Ledger>(
 pub(crate) fn begin<L: Ledger>(
     net: &Net,
     rows: &Rows,
-    source: u32,
-    sink: u32,
-    levels: &mut [u32],
-    queue: &mut [u32],
-    next: &mut [u32],
-    path: &mut [Use],
+    ends: Ends,
+    scratch: &mut Scratch,
     filling: &mut Filling,
     steps: &mut Steps<L>,
 ) -> bool
     requires rows { AreRows net.now rows.now }
-    requires source { source < net.now.nodes }
-    requires sink { sink < net.now.nodes }
-    requires apart { source ≢ sink }
+    requires ends { AreEnds net.now ends }
     requires none { filling.old.pushes ≡ 0 }
-    requires levels { length levels.old ≡ net.now.nodes }
-    requires queue { length queue.old ≡ net.now.nodes }
-    requires next { length next.old ≡ net.now.nodes }
-    requires path { length path.old ≡ net.now.nodes }
-    requires carried { IsCarried net.now.pipes source sink filling.old.amounts }
-    ensures carried { IsCarried net.now.pipes source sink filling.new.amounts }
-    ensures augments { Augments net.now.pipes source sink 1 filling.old filling.new }
+    requires room { HasRoom net.now.nodes scratch.old }
+    requires carried { IsCarried net.now.pipes ends.source ends.sink filling.old.amounts }
+    ensures room { HasRoom net.now.nodes scratch.new }
+    ensures carried { IsCarried net.now.pipes ends.source ends.sink filling.new.amounts }
+    ensures augments { Augments net.now.pipes ends.source ends.sink 1 filling.old filling.new }
     ensures upto { filling.new.pushes ≤ 2 * length net.now.pipes }
     ensures steps { steps.new ≡ steps.old + filling.new.pushes }
     ensures closed { result ≡ true →
-        IsSearched net.now.pipes filling.new.amounts 1 false source sink levels.new false }
+        IsSearched net.now.pipes filling.new.amounts 1 false ends.source ends.sink scratch.new.levels.items false }
 {
     let limit = 2 * net.pipes().len() as u64;
-    turn(
-        net, rows, 1, source, sink, limit, levels, queue, next, path, filling, steps,
-    )
+    turn(net, rows, ends, 1, limit, scratch, filling, steps)
 }

@@ -5,13 +5,16 @@ ghost use Rattle.flow_net.specs.Links.{AreRows};
 ghost use Rattle.flow_net.specs.Flows.{AreRoomsBelow};
 ghost use Rattle.flow_net.specs.Levels.{IsSearched};
 ghost use Rattle.flow_net.specs.Pushes.{IsCarried, Augments};
+ghost use Rattle.flow_net.specs.Runs.{AreEnds, HasRoom};
 
 use crate::amounts::Filling;
 use crate::counter::Steps;
+use crate::ends::Ends;
 use crate::links::Rows;
 use crate::network::Net;
 use crate::phases::turn;
-use crate::pipes::{Pipe, Use};
+use crate::pipes::Pipe;
+use crate::scratch::Scratch;
 use std::sync::ledger::Ledger;
 
 /// The greatest room, or 0 without pipes.
@@ -55,31 +58,24 @@ fn turn_count(pipes: &[Pipe]) -> u32
 pub(crate) fn powers<L: Ledger>(
     net: &Net,
     rows: &Rows,
-    source: u32,
-    sink: u32,
-    levels: &mut [u32],
-    queue: &mut [u32],
-    next: &mut [u32],
-    path: &mut [Use],
+    ends: Ends,
+    scratch: &mut Scratch,
     filling: &mut Filling,
     steps: &mut Steps<L>,
 )
     requires rows { AreRows net.now rows.now }
-    requires source { source < net.now.nodes }
-    requires sink { sink < net.now.nodes }
-    requires apart { source ≢ sink }
+    requires ends { AreEnds net.now ends }
     requires few { filling.old.pushes ≤ 2 ^ 32 }
-    requires levels { length levels.old ≡ net.now.nodes }
-    requires queue { length queue.old ≡ net.now.nodes }
-    requires next { length next.old ≡ net.now.nodes }
-    requires path { length path.old ≡ net.now.nodes }
-    requires carried { IsCarried net.now.pipes source sink filling.old.amounts }
-    ensures carried { IsCarried net.now.pipes source sink filling.new.amounts }
-    ensures augments { Augments net.now.pipes source sink 1 filling.old filling.new }
+    requires room { HasRoom net.now.nodes scratch.old }
+    requires carried { IsCarried net.now.pipes ends.source ends.sink filling.old.amounts }
+    ensures room { HasRoom net.now.nodes scratch.new }
+    ensures carried { IsCarried net.now.pipes ends.source ends.sink filling.new.amounts }
+    ensures augments { Augments net.now.pipes ends.source ends.sink 1 filling.old filling.new }
     ensures upto { (k : ℕ) → 1 ≤ k → AreRoomsBelow (2 ^ k) net.now.pipes →
         filling.new.pushes ≤ filling.old.pushes + 2 * length net.now.pipes * k }
     ensures steps { steps.new + filling.old.pushes ≡ steps.old + filling.new.pushes }
-    ensures closed { IsSearched net.now.pipes filling.new.amounts 1 false source sink levels.new false }
+    ensures closed { IsSearched net.now.pipes filling.new.amounts 1 false
+        ends.source ends.sink scratch.new.levels.items false }
 {
     let count = net.pipes().len() as u64;
     let mut turns = turn_count(net.pipes());
@@ -87,8 +83,6 @@ pub(crate) fn powers<L: Ledger>(
         turns -= 1;
         let power = power_of_two(turns);
         let limit = filling.pushes() + 2 * count + 1;
-        turn(
-            net, rows, power, source, sink, limit, levels, queue, next, path, filling, steps,
-        );
+        turn(net, rows, ends, power, limit, scratch, filling, steps);
     }
 }

@@ -4,9 +4,11 @@ ghost use Rattle.flow_net.specs.Nets.{IsNet, pipe_at};
 ghost use Rattle.flow_net.specs.Paths.{end_of};
 ghost use Rattle.flow_net.specs.Links.{AreRows, row_of, link_at};
 ghost use Rattle.flow_net.specs.Levels.{level_of, unreached};
+ghost use Rattle.flow_net.specs.Runs.{AreEnds};
 ghost use Rattle.flow_net.specs.Trails.{IsGood, IsTrail, AreBounded, HaveWays};
 
 use crate::amounts::{Filling, left};
+use crate::ends::Ends;
 use crate::links::{Link, Rows};
 use crate::network::Net;
 use crate::pipes::{Pipe, Use};
@@ -63,33 +65,31 @@ pub(crate) fn find_path(
     rows: &Rows,
     filling: &Filling,
     power: u128,
-    source: u32,
-    sink: u32,
+    ends: Ends,
     levels: &[u32],
     next: &mut [u32],
     path: &mut [Use],
 ) -> bool
     requires of_net { length filling.now.amounts ≡ length net.now.pipes }
     requires rows { AreRows net.now rows.now }
-    requires source { source < net.now.nodes }
-    requires sink { sink < net.now.nodes }
+    requires ends { AreEnds net.now ends }
     requires levels { length levels.now ≡ net.now.nodes }
     requires next { length next.old ≡ net.now.nodes }
-    requires begin { level_of levels.now source ≡ 0 }
-    requires only { (v : ℕ) → v < net.now.nodes → level_of levels.now v ≡ 0 → v ≡ source }
-    requires depth { level_of levels.now sink ≡ length path.old }
+    requires begin { level_of levels.now ends.source ≡ 0 }
+    requires only { (v : ℕ) → v < net.now.nodes → level_of levels.now v ≡ 0 → v ≡ ends.source }
+    requires depth { level_of levels.now ends.sink ≡ length path.old }
     requires few { length path.old < unreached }
     requires bounded { AreBounded net.now.nodes rows.now next.old }
     ensures bounded { AreBounded net.now.nodes rows.now next.new }
     ensures trail { result ≡ true →
-        IsTrail net.now.pipes filling.now.amounts power levels.now source sink path.new }
-    ensures ways { HaveWays net.now.pipes filling.now.amounts power levels.now rows.now net.now.nodes source next.old →
+        IsTrail net.now.pipes filling.now.amounts power levels.now ends.source ends.sink path.new }
+    ensures ways { HaveWays net.now.pipes filling.now.amounts power levels.now rows.now net.now.nodes ends.source next.old →
         (result ≡ true)
-        × HaveWays net.now.pipes filling.now.amounts power levels.now rows.now net.now.nodes source next.new }
+        × HaveWays net.now.pipes filling.now.amounts power levels.now rows.now net.now.nodes ends.source next.new }
 {
     let pipes = net.pipes();
-    let mut node = sink;
-    while node != source {
+    let mut node = ends.sink;
+    while node != ends.source {
         let level = levels[node as usize];
         let row = rows.row(node);
         let from = next[node as usize] as usize;
@@ -102,7 +102,7 @@ pub(crate) fn find_path(
                 back: !link.back,
             };
             node = link.far;
-        } else if node == sink {
+        } else if node == ends.sink {
             return false;
         } else {
             node = end_node(pipes, path[level as usize]);

@@ -4,8 +4,8 @@ use Rattle.flow_net.specs.Levels.{unreached}
 use Rattle.flow_net.proofs.Queue.{queue_marked}
 use Rattle.flow_net.proofs.levels.cross.Goals as goal
 
-pub returns-then-power-left-clause-queue : goal.returns-then-power-left-clause-queue
-returns-then-power-left-clause-queue c =
+pub returns-then-sought-left-clause-queue : goal.returns-then-sought-left-clause-queue
+returns-then-sought-left-clause-queue c =
     let known : c.args.link.far < length c.args.levels.now = c.requires.link.1 in
     let new : get_or c.args.levels.now c.args.link.far unreached ≡ unreached = get_or_default c.args.levels.now c.args.link.far unreached 0 known ∙ c.if-levels-link.true in
     queue_marked (length c.args.levels.now) c.args.levels.now c.args.queue.now c.args.count c.args.link.far (c.args.level + 1) refl

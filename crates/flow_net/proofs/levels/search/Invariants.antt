@@ -7,9 +7,9 @@ use Rattle.flow_net.proofs.levels.search.Given as goal
 abbrev pub invariant-loop-head : goal.invariant-loop-head
 invariant-loop-head l =
     record {
-      state : Searching l.net.pipes l.filling.amounts l.power l.backward l.start l.goal l.net.nodes l.levels l.queue l.count l.head;
+      state : Searching l.net.pipes l.filling.amounts l.sought.power l.sought.backward l.ends.source l.ends.sink l.net.nodes l.levels l.queue l.count l.head;
       sized : length l.levels ≡ l.net.nodes;
-      missed : get_or l.levels l.goal unreached ≡ unreached;
+      missed : get_or l.levels l.ends.sink unreached ≡ unreached;
     }
 
 abbrev pub decreases-loop-head : goal.decreases-loop-head

@@ -4,18 +4,18 @@ use Rattle.flow_net.specs.Trails.{AreBounded, HaveWays}
 use Rattle.flow_net.proofs.phases.phase.Given as goal
 
 -- the pushes so far are lawful, and before the first one each node has a way
-abbrev pub invariant-loop-filling : goal.invariant-loop-filling
-invariant-loop-filling g l =
+abbrev pub invariant-loop-levels : goal.invariant-loop-levels
+invariant-loop-levels g l =
     record {
-      carried : IsCarried l.net.pipes l.source l.sink l.filling.amounts;
-      augments : Augments l.net.pipes l.source l.sink l.power l.fn.filling l.filling;
+      carried : IsCarried l.net.pipes l.ends.source l.ends.sink l.filling.amounts;
+      augments : Augments l.net.pipes l.ends.source l.ends.sink l.power l.fn.filling l.filling;
       upto : l.filling.pushes ≤ l.limit;
       steps : l.steps + l.fn.filling.pushes ≡ l.fn.steps + l.filling.pushes;
       bounded : AreBounded l.net.nodes l.rows l.next;
       ways :
           l.filling.pushes ≡ l.fn.filling.pushes →
-          HaveWays l.net.pipes l.filling.amounts l.power l.levels l.rows l.net.nodes l.source l.next;
+          HaveWays l.net.pipes l.filling.amounts l.power l.levels l.rows l.net.nodes l.ends.source l.next;
     }
 
-abbrev pub decreases-loop-filling : goal.decreases-loop-filling
-decreases-loop-filling g l = l.limit - l.filling.pushes
+abbrev pub decreases-loop-levels : goal.decreases-loop-levels
+decreases-loop-levels g l = l.limit - l.filling.pushes

@@ -1,4 +1,5 @@
 use Rattle.std.proofs.Common.{◌≡◌, ◌+◌, ◌≤◌}
+use Rattle.flow_net.specs.Runs.{HasRoom}
 use Rattle.flow_net.proofs.Powering.{Powering}
 use Rattle.flow_net.proofs.powers.powers.Given as goal
 
@@ -6,7 +7,8 @@ use Rattle.flow_net.proofs.powers.powers.Given as goal
 abbrev pub invariant-loop-turns : goal.invariant-loop-turns
 invariant-loop-turns g l =
     record {
-      state : Powering l.net l.source l.sink l.initial.turns l.turns l.fn.filling l.filling l.levels;
+      room : HasRoom l.net.nodes l.scratch;
+      state : Powering l.net l.ends.source l.ends.sink l.initial.turns l.turns l.fn.filling l.filling l.scratch.levels.items;
       steps : l.steps + l.fn.filling.pushes ≡ l.fn.steps + l.filling.pushes;
       few : l.turns ≤ l.initial.turns;
     }

@@ -77,20 +77,20 @@ loop-node-preserved-then-place-row c =
     let place = c.next_place-place.result in
     let g = good a c.if-place-row.true in
     let within : place < length (row_of rows node) = let h = c.if-place-row.true in omega (arith, h, row_len a) in
-    let down = trailing_down net rows xs c.args.power levels c.args.sink c.loop-node.next c.loop-node.path node place
+    let down = trailing_down net rows xs c.args.power levels c.args.ends.sink c.loop-node.next c.loop-node.path node place
     c.pipes-pipes.ensures.lawful c.requires.rows (next_len a) c.loop-node.invariant.state within g in
     let down_level =
-    subst (λ (n : ℕ). Trailing net rows xs c.args.power levels c.args.sink (set c.loop-node.next node place)
+    subst (λ (n : ℕ). Trailing net rows xs c.args.power levels c.args.ends.sink (set c.loop-node.next node place)
     (set c.loop-node.path (n - 1) (use_of (link_at (row_of rows node) place).pipe (not (link_at (row_of rows node) place).back)))
     (link_at (row_of rows node) place).far) (sym (level_is a)) down in
     record {
       state =
-          subst (λ (r : List Link). Trailing net rows xs c.args.power levels c.args.sink (set c.loop-node.next node place)
+          subst (λ (r : List Link). Trailing net rows xs c.args.power levels c.args.ends.sink (set c.loop-node.next node place)
           (set c.loop-node.path (get_or levels node 0 - 1) (use_of (link_at r place).pipe (not (link_at r place).back)))
           (link_at r place).far) (sym c.row-row.ensures) down_level;
       ways =
           λ before.
-          ways_down net.pipes rows xs c.args.power levels net.nodes c.args.source c.loop-node.next node place (next_len a) c.loop-node.invariant.state.known
+          ways_down net.pipes rows xs c.args.power levels net.nodes c.args.ends.source c.loop-node.next node place (next_len a) c.loop-node.invariant.state.known
           (found a).first (c.loop-node.invariant.ways before);
     }
 
@@ -103,31 +103,31 @@ none_left :
 none_left c h k from l = (found c).first k from (omega (arith, h, row_len c, l))
 
 no_ways :
-    (c : After-next_place-place) → c.loop-node.node ≢ c.args.source → length c.row-row.result.now ≤ c.next_place-place.result →
-    HaveWays c.args.net.now.pipes c.args.filling.now.amounts c.args.power c.args.levels.now c.args.rows.now c.args.net.now.nodes c.args.source c.args.next.now →
+    (c : After-next_place-place) → c.loop-node.node ≢ c.args.ends.source → length c.row-row.result.now ≤ c.next_place-place.result →
+    HaveWays c.args.net.now.pipes c.args.filling.now.amounts c.args.power c.args.levels.now c.args.rows.now c.args.net.now.nodes c.args.ends.source c.args.next.now →
     ⊥
 no_ways c differ h before =
     let low = c.loop-node.invariant.state.low in
     let reached : IsReached c.args.levels.now c.loop-node.node = omega (arith, low, c.loop-node.auto.path, c.requires.few) in
-    ways_go_on c.args.net.now.pipes c.args.rows.now c.args.filling.now.amounts c.args.power c.args.levels.now c.args.net.now.nodes c.args.source
+    ways_go_on c.args.net.now.pipes c.args.rows.now c.args.filling.now.amounts c.args.power c.args.levels.now c.args.net.now.nodes c.args.ends.source
     c.loop-node.next c.loop-node.node (c.loop-node.invariant.ways before) c.loop-node.invariant.state.known reached differ (none_left c h)
 
-pub returns-then-node-sink-clause-ways : goal.returns-then-node-sink-clause-ways
-returns-then-node-sink-clause-ways c =
-    let a = (goal.at.returns-then-node-sink-clause-ways c).After-next_place-place in
+pub returns-then-node-ends-clause-ways : goal.returns-then-node-ends-clause-ways
+returns-then-node-ends-clause-ways c =
+    let a = (goal.at.returns-then-node-ends-clause-ways c).After-next_place-place in
     λ before. absurd (no_ways a c.loop-node-test.true c.if-place-row.false before)
 
 -- the path goes on at the node's level
-goes_on : (c : After-next_place-place) → c.loop-node.node ≢ c.args.sink → level_of c.args.levels.now c.loop-node.node < length c.loop-node.path
+goes_on : (c : After-next_place-place) → c.loop-node.node ≢ c.args.ends.sink → level_of c.args.levels.now c.loop-node.node < length c.loop-node.path
 goes_on c differ =
-    trail_goes_on c.args.net.now c.args.rows.now c.args.filling.now.amounts c.args.power c.args.levels.now c.args.sink c.loop-node.next c.loop-node.path
+    trail_goes_on c.args.net.now c.args.rows.now c.args.filling.now.amounts c.args.power c.args.levels.now c.args.ends.sink c.loop-node.next c.loop-node.path
     c.loop-node.node c.loop-node.invariant.state differ
 
 pub end_node-node-requires : goal.end_node-node-requires
 end_node-node-requires c =
     let a = (goal.at.end_node-node-requires c).After-next_place-place in
-    let first = at_first c.args.net.now c.args.rows.now c.args.filling.now.amounts c.args.power c.args.levels.now c.args.sink c.loop-node.next c.loop-node.path
-    c.loop-node.node c.loop-node.invariant.state (goes_on a c.if-node-sink.false) in
+    let first = at_first c.args.net.now c.args.rows.now c.args.filling.now.amounts c.args.power c.args.levels.now c.args.ends.sink c.loop-node.next c.loop-node.path
+    c.loop-node.node c.loop-node.invariant.state (goes_on a c.if-node-ends.false) in
     let same : get_or c.args.levels.now c.loop-node.node 0 ≡ level_of c.args.levels.now c.loop-node.node = level_is a in
     let known : (get_or c.loop-node.path (get_or c.args.levels.now c.loop-node.node 0) no_use).pipe < length c.args.net.now.pipes =
     subst (λ (n : ℕ). (get_or c.loop-node.path n no_use).pipe < length c.args.net.now.pipes) (sym same) first.known in
@@ -151,36 +151,36 @@ next_up c child =
 
 -- the state behind a node from which no link leads on
 up :
-    (c : After-next_place-place) (child : ℕ) → child ≡ child_of c → c.loop-node.node ≢ c.args.sink → length c.row-row.result.now ≤ c.next_place-place.result →
-    Trailing c.args.net.now c.args.rows.now c.args.filling.now.amounts c.args.power c.args.levels.now c.args.sink (next_up c child) c.loop-node.path child
+    (c : After-next_place-place) (child : ℕ) → child ≡ child_of c → c.loop-node.node ≢ c.args.ends.sink → length c.row-row.result.now ≤ c.next_place-place.result →
+    Trailing c.args.net.now c.args.rows.now c.args.filling.now.amounts c.args.power c.args.levels.now c.args.ends.sink (next_up c child) c.loop-node.path child
 up c child is differ h =
     let net = c.args.net.now in
     let rows = c.args.rows.now in
     let node = c.loop-node.node in
     let place : length (row_of rows node) ≡ c.next_place-place.result = let w = (found c).within in omega (arith, w, h, row_len c) in
-    let state = trailing_up net rows c.args.filling.now.amounts c.args.power c.args.levels.now c.args.sink c.loop-node.next c.loop-node.path node
+    let state = trailing_up net rows c.args.filling.now.amounts c.args.power c.args.levels.now c.args.ends.sink c.loop-node.next c.loop-node.path node
     c.pipes-pipes.ensures.lawful (next_len c) c.loop-node.invariant.state (goes_on c differ) in
     let at_place =
-    subst (λ (n : ℕ). Trailing net rows c.args.filling.now.amounts c.args.power c.args.levels.now c.args.sink
+    subst (λ (n : ℕ). Trailing net rows c.args.filling.now.amounts c.args.power c.args.levels.now c.args.ends.sink
     (set (set c.loop-node.next node n) (child_of c) (get_or (set c.loop-node.next node n) (child_of c) 0 + 1)) c.loop-node.path (child_of c)) place state in
-    subst (λ (v : ℕ). Trailing net rows c.args.filling.now.amounts c.args.power c.args.levels.now c.args.sink (next_up c v) c.loop-node.path v) (sym is) at_place
+    subst (λ (v : ℕ). Trailing net rows c.args.filling.now.amounts c.args.power c.args.levels.now c.args.ends.sink (next_up c v) c.loop-node.path v) (sym is) at_place
 
 next_up_len : (c : After-next_place-place) (child : ℕ) → length (next_up c child) ≡ c.args.net.now.nodes
 next_up_len c child =
     let next1 = set c.loop-node.next c.loop-node.node c.next_place-place.result in
     length-set next1 child (get_or next1 child 0 + 1) ∙ (length-set c.loop-node.next c.loop-node.node c.next_place-place.result ∙ next_len c)
 
-pub bounds-next-node-else-node-sink-2 : goal.bounds-next-node-else-node-sink-2
-bounds-next-node-else-node-sink-2 c =
-    let a = (goal.at.bounds-next-node-else-node-sink-2 c).After-next_place-place in
-    let state = up a c.end_node-node.result (child_is a c.end_node-node.result c.end_node-node.ensures) c.if-node-sink.false c.if-place-row.false in
+pub bounds-next-node-else-node-ends-2 : goal.bounds-next-node-else-node-ends-2
+bounds-next-node-else-node-ends-2 c =
+    let a = (goal.at.bounds-next-node-else-node-ends-2 c).After-next_place-place in
+    let state = up a c.end_node-node.result (child_is a c.end_node-node.result c.end_node-node.ensures) c.if-node-ends.false c.if-place-row.false in
     omega (arith, state.known, length-set c.loop-node.next c.loop-node.node c.next_place-place.result, next_len a)
 
 pub overflow_add-next : goal.overflow_add-next
 overflow_add-next c =
     let a = (goal.at.overflow_add-next c).After-next_place-place in
     let child = c.end_node-node.result in
-    let state = up a child (child_is a child c.end_node-node.ensures) c.if-node-sink.false c.if-place-row.false in
+    let state = up a child (child_is a child c.end_node-node.ensures) c.if-node-ends.false c.if-place-row.false in
     let next1 = set c.loop-node.next c.loop-node.node c.next_place-place.result in
     let bound = state.bounded child state.known in
     let mine = get_or-set_same next1 child (get_or next1 child 0 + 1) 0 (omega (arith, state.known, length-set c.loop-node.next c.loop-node.node c.next_place-place.result, next_len a)) in
@@ -193,7 +193,7 @@ loop-node-smaller c =
     let a = (goal.at.loop-node-smaller c).After-next_place-place in
     let child = c.end_node-node.result in
     let limit = length c.args.rows.now.links.items in
-    let state = up a child (child_is a child c.end_node-node.ensures) c.if-node-sink.false c.if-place-row.false in
+    let state = up a child (child_is a child c.end_node-node.ensures) c.if-node-ends.false c.if-place-row.false in
     let bound = sum_bounded limit (next_up a child)
     (λ v h. let b = state.bounded v (let l = next_up_len a child in omega (arith, h, l)) in let s = row_short c.args.rows.now v in omega (arith, b, s)) in
     let same : length (next_up a child) ≡ length c.loop-node.next = next_up_len a child ∙ sym (next_len a) in
@@ -207,6 +207,6 @@ loop-node-preserved c =
     let a = (goal.at.loop-node-preserved c).After-next_place-place in
     let child = c.end_node-node.result in
     record {
-      state = up a child (child_is a child c.end_node-node.ensures) c.if-node-sink.false c.if-place-row.false;
+      state = up a child (child_is a child c.end_node-node.ensures) c.if-node-ends.false c.if-place-row.false;
       ways = λ before. absurd (no_ways a c.loop-node-test.true c.if-place-row.false before);
     }

@@ -8,10 +8,10 @@ use Rattle.flow_net.proofs.trails.find_path.Given as goal
 abbrev pub invariant-loop-node : goal.invariant-loop-node
 invariant-loop-node l =
     record {
-      state : Trailing l.net l.rows l.filling.amounts l.power l.levels l.sink l.next l.path l.node;
+      state : Trailing l.net l.rows l.filling.amounts l.power l.levels l.ends.sink l.next l.path l.node;
       ways :
-          HaveWays l.net.pipes l.filling.amounts l.power l.levels l.rows l.net.nodes l.source l.fn.next →
-          HaveWays l.net.pipes l.filling.amounts l.power l.levels l.rows l.net.nodes l.source l.next;
+          HaveWays l.net.pipes l.filling.amounts l.power l.levels l.rows l.net.nodes l.ends.source l.fn.next →
+          HaveWays l.net.pipes l.filling.amounts l.power l.levels l.rows l.net.nodes l.ends.source l.next;
     }
 
 abbrev pub decreases-loop-node : goal.decreases-loop-node

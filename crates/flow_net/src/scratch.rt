@@ -1,0 +1,39 @@
+// What a run works on.
+ghost use Rattle.std.specs.Prelude.{◌≡◌, ℕ, length, slice_index, IfOk};
+ghost use Rattle.flow_net.specs.Runs.{HasRoom};
+
+use crate::pipes::Use;
+use seed_model::NoMemory;
+use std::alloc::Global;
+
+/// Lists that searches and walks write, with one place for each node.
+#[derive(Drop)]
+pub(crate) struct Scratch {
+    /// The level of each node, by the last search.
+    pub levels: Vec<u32>,
+    /// The nodes that a search reached, in the order in which it did.
+    pub queue: Vec<u32>,
+    /// How many of each node's links were passed.
+    pub next: Vec<u32>,
+    /// The uses of a path, by level.
+    pub path: Vec<Use>,
+}
+
+impl Scratch {
+    /// Lists for so many nodes, of zeros.
+    pub fn of(alloc: Global, nodes: usize) -> Result<Scratch, NoMemory>
+        ensures room { IfOk result (λ made. HasRoom nodes made) }
+        ensures clear { IfOk result (λ made. (v : ℕ) → slice_index made.next.items v ≡ 0) }
+    {
+        let unused = Use {
+            pipe: 0,
+            back: false,
+        };
+        Ok(Scratch {
+            levels: vec![in alloc; 0u32; nodes]?,
+            queue: vec![in alloc; 0u32; nodes]?,
+            next: vec![in alloc; 0u32; nodes]?,
+            path: vec![in alloc; unused; nodes]?,
+        })
+    }
+}
