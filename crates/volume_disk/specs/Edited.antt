@@ -1,3 +1,4 @@
+-- Lemmas, not definitions: members of `MemRack` cite them, through those of `RecordLaws`.
 -- Lists with other elements in a range, and places outside it.
 use Rattle.std.proofs.Common.{◌≡◌, ◌⊎◌, inl, inr, ℕ, ◌+◌, ◌-◌, ◌<◌, ◌≤◌, List, ◌++◌, length, take, drop, replicate, get_or, Bool, false, ◌∙◌, ap, arith, ltb-false, leb-false}
 use Rattle.std.specs.Prelude.{max, nat_le, nat_lt, ◌||◌}

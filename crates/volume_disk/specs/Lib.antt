@@ -1,6 +1,7 @@
 pub mod Device
 pub mod Disk
 pub mod Edited
+pub mod Folder
 pub mod Medium
 pub mod Memory
 pub mod Picks

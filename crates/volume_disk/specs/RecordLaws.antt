@@ -1,3 +1,4 @@
+-- Lemmas, not definitions: members of `MemRack` cite them.
 -- The clock of devices in memory.
 use Rattle.std.proofs.Common.{◌≡◌, ℕ, ◌≤◌, List, [], ◌∷◌, drop, Bool, true, false, subst, arith}
 use Rattle.std.specs.Prelude.{◌==◌, if◌then◌else◌, slice_index_or}

@@ -1,3 +1,4 @@
+-- Lemmas, not definitions of a contract: members of `MemRack` cite them, through those of `RecordLaws`.
 -- A device as it reads is one of its crash images.
 use Rattle.std.proofs.Common.{◌≡◌, inl, inr, ℕ, ◌<◌, ◌≤◌, List, ◌∷◌, length, true, false, refl, ◌∙◌, arith, leb-false, le-leb}
 use Rattle.std.specs.Prelude.{nat_le}

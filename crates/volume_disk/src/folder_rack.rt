@@ -1,6 +1,7 @@
 // The devices as the files 0 to 5 of a folder.
-ghost use Rattle.std.specs.Prelude.{◌≡◌, ◌<◌, false, [], ⊤, IfOk};
+ghost use Rattle.std.specs.Prelude.{◌≡◌, ◌<◌, false, [], ⊤, length, take, IfOk};
 ghost use Rattle.std.specs.Io.{ReadsAtMost};
+ghost use Rattle.std.specs.Io.KnownBytes.{Consumes, IsAtEnd};
 ghost use Rattle.fault_count.specs.Counts.{HasCause, last_count};
 ghost use Rattle.volume_disk.specs.Medium.{at_rest};
 ghost use Rattle.volume_disk.specs.declared.rack.RackError.TheVariants.{Fault};
@@ -53,12 +54,29 @@ fn size_of<R: Files>(rt: &R, dev: u8) -> io::Result<u64> {
     Ok(about.len())
 }
 
+/// Reads until there is no room left, or until no more bytes come. Answers how many came.
+fn fill<F: Read>(file: &mut F, into: &mut [u8]) -> io::Result<usize>
+    ensures bound { ReadsAtMost result into.new }
+    ensures bytes { IfOk result (λ n. Consumes (F.remaining file.old) (F.remaining file.new) (take n into.new)) }
+    ensures end { IfOk result (λ n. n < length into.new → IsAtEnd (F.remaining file.new)) }
+{
+    let mut done = 0usize;
+    while done < into.len() {
+        let count = file.read(&mut into[done..])?;
+        if count == 0 {
+            return Ok(done);
+        }
+        done += count;
+    }
+    Ok(done)
+}
+
 fn read_from<R: Files>(rt: &R, dev: u8, at: u64, into: &mut [u8]) -> io::Result<usize>
     ensures { ReadsAtMost result into.new }
 {
     let mut file = open(rt, dev)?;
     file.seek(SeekFrom::Start(at))?;
-    file.read(into)
+    fill(&mut file, into)
 }
 
 fn write_to<R: Files>(rt: &R, dev: u8, at: u64, bytes: &[u8]) -> io::Result<()> {
@@ -84,8 +102,12 @@ fn sync_all<R: Files>(rt: &R, dev: u8) -> io::Result<()> {
 }
 
 impl<'r, R: Files> FolderRack<'r, R> {
+    ghost use Rattle.volume_disk.specs.Folder.{rack_faults};
+
     /// A rack with no fault yet. It touches nothing outside.
-    pub fn new(rt: &'r R) -> Self {
+    pub fn new(rt: &'r R) -> Self
+        ensures { rack_faults result ≡ 0 }
+    {
         FolderRack {
             rt,
             tally: FaultTally::new(),
@@ -110,10 +132,11 @@ impl<'r, R: Files> FolderRack<'r, R> {
 
 impl<'r, R: Files> Rack for FolderRack<'r, R> {
     ghost use Rattle.std.proofs.lemmas.Bool.{false≢true};
+    ghost use Rattle.volume_disk.specs.Folder.{rack_faults};
 
     ghost honest = { λ s. false };
 
-    ghost faults = { λ s. s.tally };
+    ghost faults = { rack_faults };
 
     ghost disk = { λ s dev. at_rest [] };
 

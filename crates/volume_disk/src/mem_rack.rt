@@ -35,7 +35,8 @@ impl Model for MemRack {
 
 impl MemRack {
     /// Six empty devices with room for `room` bytes each, on which nothing is pending, and room for a record of `calls`
-    /// calls that wrote `written` bytes together; the calls whose numbers are listed will fail. None is want of memory.
+    /// calls that wrote `written` bytes together. The calls whose numbers are listed will fail, each after it was done,
+    /// but a sync, which is then not done. None is want of memory.
     pub fn new(
         alloc: Global,
         room: usize,
@@ -54,7 +55,7 @@ impl MemRack {
         })
     }
 
-    /// Makes the call of this number and all later ones fail, each after it was done.
+    /// Makes the call of this number and all later ones fail, each after it was done, but a sync, which is then not done.
     pub fn stop_at(&mut self, call: u64)
         ensures { self.new ≡ record self.old { stop = Some call } }
     {
@@ -104,6 +105,7 @@ impl MemRack {
         self.devices.look();
         turn.answer()
     }
+
     /// Counts a write, and does it where it fits.
     fn write_counted(&mut self, dev: u8, at: u64, bytes: &[u8]) -> Result<(), RackError>
         requires { dev ≤ 5 }

@@ -69,7 +69,8 @@ pub trait Rack {
         ensures disk { honest self.old ≡ true → Cuts dev len (disk self.old) (disk self.new) result }
         ensures time { honest self.old ≡ true → Elapses (moment self.old) (moment self.new) (left_since self.old) (left_since self.new) (Crash (disk self.new)) };
 
-    /// Makes all that was written to a device last. After that a crash leaves what a read gives.
+    /// Makes all that was written to a device last. After that a crash leaves what a read gives. After a fault what
+    /// was pending still is.
     fn sync(&mut self, dev: u8) -> Result<(), RackError>
         requires { dev ≤ 5 }
         ensures cause { HasCause Fault (faults self.old) (faults self.new) result }

@@ -216,6 +216,7 @@ impl RecordedDevices {
         let device = &mut self.devices[dev as usize];
         device.write(at as usize, bytes);
     }
+
     /// Cuts, and records it.
     pub fn cut(&mut self, dev: u8, len: u64)
         requires is_device { dev ≤ 5 }

@@ -11,7 +11,7 @@ use fault_count::FaultPlan;
 pub enum Turn {
     /// With a fault, and nothing is done.
     Refused,
-    /// With a fault, after it was done.
+    /// With a fault, after it was done, but a sync, which is then not done.
     Fails,
     /// It is done.
     Runs,
