@@ -1,5 +1,5 @@
 -- The commands: their names and operands.
-use Rattle.std.specs.Prelude.{◌≡◌, ℕ, zero, suc, List, [], ◌∷◌, length, codes}
+use Rattle.std.specs.Prelude.{◌≡◌, ◌⊎◌, ℕ, zero, suc, List, [], ◌∷◌, length, codes}
 use Rattle.goseed_words.specs.declared.amount.Amount.{Amount}
 use Rattle.goseed_words.specs.Amounts.{SpellsAmount}
 
@@ -8,9 +8,17 @@ pub data Operand : Type 0 where
   AnyWord : Operand
   AnAmount : Operand
 
--- the table of commands: `best RECIPE TARGET SLACK`
+-- `best RECIPE TARGET SLACK`
+abbrev pub IsBest : List ℕ → List Operand → Type 0
+IsBest name operands = (name ≡ codes "best") × (operands ≡ AnyWord ∷ AnAmount ∷ AnAmount ∷ [])
+
+-- `weigh RECIPE SET`; whether the last word is a set, the recipe tells
+abbrev pub IsWeigh : List ℕ → List Operand → Type 0
+IsWeigh name operands = (name ≡ codes "weigh") × (operands ≡ AnyWord ∷ AnyWord ∷ [])
+
+-- the table of commands
 abbrev pub IsCommand : List ℕ → List Operand → Type 0
-IsCommand name operands = (name ≡ codes "best") × (operands ≡ AnyWord ∷ AnAmount ∷ AnAmount ∷ [])
+IsCommand name operands = IsBest name operands ⊎ IsWeigh name operands
 
 -- the word is spelled as the operand wants it
 abbrev pub IsSpelled : Operand → List ℕ → Type 0

@@ -2,7 +2,9 @@
 #![tactic(auto)]
 
 pub mod amount;
+pub mod laws;
 pub mod order;
 
 pub use amount::Amount;
+pub use laws::word_laws;
 pub use order::{Order, WordError, order_of};

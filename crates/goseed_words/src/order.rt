@@ -9,7 +9,7 @@ use crate::amount::{Amount, amount_of};
 pub enum WordError {
     /// No command has this name and this number of operands.
     Usage,
-    /// The word at this place is not spelled as the command wants it, the command being place 1. No word before it is.
+    /// The word at this place is not spelled as the command wants it, the command being place 1. Each word before it is.
     BadWord { place: u32 },
 }
 
@@ -21,6 +21,11 @@ pub enum Order<'w> {
         recipe: &'w str,
         target: Amount,
         slack: Amount,
+    },
+    /// Sum up what moving a set of the files of a recipe moves.
+    Weigh {
+        recipe: &'w str,
+        set: &'w str,
     },
 }
 
@@ -34,6 +39,7 @@ pub fn order_of<'w>(words: &'w [String]) -> Result<Order<'w>, WordError>
     };
     match command.as_str() {
         "best" => best_of(operands),
+        "weigh" => weigh_of(operands),
         _ => Err(WordError::Usage),
     }
 }
@@ -56,5 +62,19 @@ fn best_of<'w>(operands: &'w [String]) -> Result<Order<'w>, WordError>
         recipe: recipe.as_str(),
         target,
         slack,
+    })
+}
+
+/// The order `weigh` with these operands. Which sets a recipe has, its text tells.
+fn weigh_of<'w>(operands: &'w [String]) -> Result<Order<'w>, WordError>
+    ensures meaning { Mean (codes "weigh" ∷ texts operands.now) result }
+    ensures lawful { IfOk result IsLawful }
+{
+    let [recipe, set] = operands else {
+        return Err(WordError::Usage);
+    };
+    Ok(Order::Weigh {
+        recipe: recipe.as_str(),
+        set: set.as_str(),
     })
 }

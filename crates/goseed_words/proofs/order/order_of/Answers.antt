@@ -1,10 +1,11 @@
-use Rattle.std.proofs.Common.{◌≡◌, ◌∙◌, ◌∷◌, ap, sym}
-use Rattle.std.specs.Prelude.{codes, string_bytes}
-use Rattle.goseed_words.specs.Orders.{texts}
+use Rattle.std.specs.Prelude.{codes}
+use Rattle.goseed_words.proofs.OrderLemmas.{command_words}
 use Rattle.goseed_words.proofs.order.order_of.Goals as goal
 
 pub returns-in-best-clause-meaning : goal.returns-in-best-clause-meaning
 returns-in-best-clause-meaning c =
-    let split : texts c.args.words.now ≡ string_bytes c.in-Some.command.now ∷ texts c.in-Some.operands.now = ap texts c.in-Some.ensures.cases.0 in
-    let named : string_bytes c.in-Some.command.now ≡ codes "best" = sym c.as_str.ensures.value ∙ c.in-best.is in
-    rw (split, named) c.best_of.ensures.meaning
+    rw (command_words c.args.words.now c.in-Some.operands.now c.in-Some.command.now (codes "best") _ c.in-Some.ensures.cases.0 c.as_str.ensures.value c.in-best.is) c.best_of.ensures.meaning
+
+pub returns-in-weigh-clause-meaning : goal.returns-in-weigh-clause-meaning
+returns-in-weigh-clause-meaning c =
+    rw (command_words c.args.words.now c.in-Some.operands.now c.in-Some.command.now (codes "weigh") _ c.in-Some.ensures.cases.0 c.as_str.ensures.value c.in-weigh.is) c.weigh_of.ensures.meaning
