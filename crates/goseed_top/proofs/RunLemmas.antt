@@ -1,16 +1,15 @@
 -- How commands end, from what their words mean.
-use Rattle.std.proofs.Common.{◌≡◌, ◌∙◌, ℕ, List, Bool, true, refl, inl, inr}
+use Rattle.std.proofs.Common.{ℕ, List, Bool, refl}
 use Rattle.std.specs.Prelude.{Result, Ok, Err, IfOk}
 use Rattle.std.proofs.lemmas.Result.{IfOk-weaker}
 use Rattle.seed_io.specs.Shelf.{Told}
 use Rattle.goseed_words.specs.declared.order.Order.{Order}
-use Rattle.goseed_words.specs.declared.order.WordError.{WordError}
 use Rattle.goseed_words.specs.declared.order.WordError.TheVariants.{Usage, BadWord}
 use Rattle.goseed_words.specs.Orders.{IsWordFault, SpellsOrder}
 use Rattle.goseed_top.specs.declared.status.Status.{Status}
 use Rattle.goseed_top.specs.declared.report.Report.{Report}
 use Rattle.goseed_top.specs.declared.report.Halt.{Halt}
-use Rattle.goseed_top.specs.Endings.{Over, Ends, EndsOver, OrderEnds}
+use Rattle.goseed_top.specs.Endings.{Over, EndsOver, OrderEnds}
 use Rattle.goseed_top.specs.Refusals.{Refuses, usage, bad_word}
 
 pub ends_usage : (tells : Bool) (map : Told) (words : List (List ℕ)) (status : Status) (text : List ℕ) → IsWordFault words Usage → Refuses usage status text → EndsOver tells map words status text

@@ -1,40 +1,35 @@
 -- Texts, line by line.
-use Rattle.std.proofs.Common.{◌≡◌, ◌∙◌, ◌++◌, ◌∷◌, ◌+◌, ◌<◌, ◌≤◌, [], ap, sym, ℕ, List, Bool, true, false, refl, length, take, get_or, arith}
-use Rattle.std.specs.Prelude.{codes}
+use Rattle.std.proofs.Common.{◌≡◌, ◌∙◌, ◌++◌, ◌+◌, ◌<◌, ◌≤◌, ap, [], ℕ, List, length, take, get_or, arith}
 use Rattle.std.specs.List.{flat_map, enumerate_from}
-use Rattle.std.proofs.lemmas.List.{take_more, take_all, flat_map_more, append-nil}
+use Rattle.std.proofs.lemmas.List.{take_more, take_all, flat_map_more}
 use Rattle.std.proofs.lemmas.List.FromFn.{length-enumerate_from, get_or-enumerate_from}
-use Rattle.goseed_top.specs.Texts.{line, file_line, file_lines}
+use Rattle.seed_model.specs.declared.table.Class.{Class}
+use Rattle.goseed_top.specs.Texts.{lines_of}
 
-file_at : (set : ℕ → Bool) (names : List (List ℕ)) (file : ℕ) → file < length names → get_or (enumerate_from 0 names) file (0, []) ≡ (file, get_or names file [])
-file_at set names file lt =
-    let at : 0 + file ≡ file = omega arith in
-    get_or-enumerate_from 0 names file (0, []) lt ∙ ap (λ (n : ℕ). (n, get_or names file [])) at
+-- a class that is in no list
+abbrev pub no_class : Class
+no_class = record { size = 0; users = [] }
 
--- one file more
-file_lines_more : (set : ℕ → Bool) (names : List (List ℕ)) (file : ℕ) (front : List ℕ) → file < length names
-    → (front ++ flat_map (file_line set) (take file (enumerate_from 0 names))) ++ file_line set (file, get_or names file []) ≡ front ++ flat_map (file_line set) (take (file + 1) (enumerate_from 0 names))
-file_lines_more set names file front lt =
-    let inside : file < length (enumerate_from 0 names) = omega (arith, length-enumerate_from 0 names) in
-    let more = take_more (enumerate_from 0 names) file (0, []) inside in
-    rw (more, file_at set names file lt) (flat_map_more (file_line set) front (take file (enumerate_from 0 names)) (file, get_or names file []))
+-- the lines of the first items
+abbrev pub first_lines : {X : Type 0} → (ℕ × X → List ℕ) → List X → ℕ → List ℕ
+first_lines line_of items count = flat_map line_of (take count (enumerate_from 0 items))
 
-pub file_line_kept : (set : ℕ → Bool) (names : List (List ℕ)) (file : ℕ) (front before after name : List ℕ) → file < length names → name ≡ get_or names file [] → set file ≡ true
-    → before ≡ front ++ flat_map (file_line set) (take file (enumerate_from 0 names)) → after ≡ before ++ line (codes "file" ++ codes " " ++ name)
-    → after ≡ front ++ flat_map (file_line set) (take (file + 1) (enumerate_from 0 names))
-file_line_kept set names file front before after name lt named kept was is =
-    let one : file_line set (file, get_or names file []) ≡ line (codes "file" ++ codes " " ++ name) = rw (kept, named) refl in
-    is ∙ (ap (λ (t : List ℕ). t ++ line (codes "file" ++ codes " " ++ name)) was
-    ∙ (ap (λ (t : List ℕ). (front ++ flat_map (file_line set) (take file (enumerate_from 0 names))) ++ t) (sym one) ∙ file_lines_more set names file front lt))
+item_at : {X : Type 0} (items : List X) (i : ℕ) (d : X) → i < length items → get_or (enumerate_from 0 items) i (0, d) ≡ (i, get_or items i d)
+item_at items i d lt =
+    let at : 0 + i ≡ i = omega arith in
+    get_or-enumerate_from 0 items i (0, d) lt ∙ ap (λ (n : ℕ). (n, get_or items i d)) at
 
-pub file_line_left_out : (set : ℕ → Bool) (names : List (List ℕ)) (file : ℕ) (front before : List ℕ) → file < length names → set file ≡ false
-    → before ≡ front ++ flat_map (file_line set) (take file (enumerate_from 0 names)) → before ≡ front ++ flat_map (file_line set) (take (file + 1) (enumerate_from 0 names))
-file_line_left_out set names file front before lt out was =
-    let one : file_line set (file, get_or names file []) ≡ [] = rw out refl in
-    was ∙ (sym (append-nil _) ∙ (ap (λ (t : List ℕ). (front ++ flat_map (file_line set) (take file (enumerate_from 0 names))) ++ t) (sym one) ∙ file_lines_more set names file front lt))
+-- one item more
+pub lines_more : {X : Type 0} (line_of : ℕ × X → List ℕ) (items : List X) (i : ℕ) (d : X) (front before after : List ℕ) → i < length items
+    → before ≡ front ++ first_lines line_of items i → after ≡ before ++ line_of (i, get_or items i d) → after ≡ front ++ first_lines line_of items (i + 1)
+lines_more line_of items i d front before after lt was is =
+    let inside : i < length (enumerate_from 0 items) = omega (arith, length-enumerate_from 0 items) in
+    let more = take_more (enumerate_from 0 items) i (0, d) inside in
+    is ∙ (ap (λ (t : List ℕ). t ++ line_of (i, get_or items i d)) was
+    ∙ rw (more, item_at items i d lt) (flat_map_more line_of front (take i (enumerate_from 0 items)) (i, get_or items i d)))
 
--- every file passed
-pub file_lines_all : (set : ℕ → Bool) (names : List (List ℕ)) (file : ℕ) (front text : List ℕ) → length names ≤ file
-    → text ≡ front ++ flat_map (file_line set) (take file (enumerate_from 0 names)) → text ≡ front ++ file_lines set names
-file_lines_all set names file front text past is =
-    is ∙ ap (λ (t : List (ℕ × List ℕ)). front ++ flat_map (file_line set) t) (take_all file (enumerate_from 0 names) (omega (arith, length-enumerate_from 0 names)))
+-- every item passed
+pub lines_all : {X : Type 0} (line_of : ℕ × X → List ℕ) (items : List X) (i : ℕ) (front text : List ℕ) → length items ≤ i
+    → text ≡ front ++ first_lines line_of items i → text ≡ front ++ lines_of line_of items
+lines_all {X} line_of items i front text past is =
+    is ∙ ap (λ (t : List (ℕ × X)). front ++ flat_map line_of t) (take_all i (enumerate_from 0 items) (omega (arith, length-enumerate_from 0 items)))

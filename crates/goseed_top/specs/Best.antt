@@ -1,29 +1,19 @@
 -- How `best` ends.
-use Rattle.std.specs.Prelude.{◌≡◌, ◌≢◌, ◌⊎◌, ℕ, ◌<◌, ◌≤◌, List, Bool, length}
-use Rattle.csv_rows.specs.Rows.{rows_of}
+use Rattle.std.specs.Prelude.{◌≡◌, ◌⊎◌, ℕ, ◌<◌, ◌≤◌, List, Bool, length}
 use Rattle.seed_model.specs.declared.limits.TheConstants.{MOST_TRIED_FILES}
 use Rattle.seed_model.specs.declared.range.Range.{Range}
 use Rattle.seed_model.specs.Files.{holds}
 use Rattle.seed_model.specs.Ranges.{range_around}
 use Rattle.seed_model.specs.Best.{IsFirstBest, NoneInRange}
 use Rattle.seed_io.specs.Shelf.{Told}
-use Rattle.recipe_reader.specs.Recipes.{RecipeValue, empty_recipe, bytes_of, table_of}
-use Rattle.recipe_reader.specs.Reading.{Leads, IsFirstFault}
-use Rattle.recipe_reader.specs.declared.error.RecipeError.{RecipeError}
+use Rattle.recipe_reader.specs.Recipes.{RecipeValue, bytes_of, table_of}
 use Rattle.goseed_words.specs.declared.amount.Amount.{Amount}
 use Rattle.goseed_words.specs.Amounts.{amount_in}
 use Rattle.goseed_top.specs.declared.status.Status.{Status}
 use Rattle.goseed_top.specs.declared.status.Status.TheVariants.{Done, No}
-use Rattle.goseed_top.specs.declared.limits.TheConstants.{MOST_RECIPE_BYTES}
 use Rattle.goseed_top.specs.Texts.{best_text, none_text}
-use Rattle.goseed_top.specs.Refusals.{Refuses, no_recipe, too_many_files}
-use Rattle.goseed_top.specs.Reading.{TextEnds}
-
--- the bytes are no recipe's text, and the command is refused for the first fault
-pub record RefusesText (bytes : List ℕ) (status : Status) (text : List ℕ) : Type 0 where
-  pub error : RecipeError
-  pub fault : IsFirstFault empty_recipe (rows_of bytes) error
-  pub refuses : Refuses (no_recipe error) status text
+use Rattle.goseed_top.specs.Refusals.{Refuses, too_many_files}
+use Rattle.goseed_top.specs.Reading.{RecipeEnds}
 
 -- the recipe has more files than those of which every set is tried
 pub record HasTooManyFiles (recipe : RecipeValue) (status : Status) (text : List ℕ) : Type 0 where
@@ -53,16 +43,10 @@ pub record TriesAll (recipe : RecipeValue) (range : Range) (status : Status) (te
 abbrev pub range_in : RecipeValue → Amount → Amount → Range
 range_in recipe target slack = range_around (amount_in (bytes_of recipe) target) (amount_in (bytes_of recipe) slack)
 
--- the bytes are a recipe's text, and the answer is for that recipe
-pub record AnswersText (bytes : List ℕ) (target slack : Amount) (status : Status) (text : List ℕ) : Type 0 where
-  pub recipe : RecipeValue
-  pub lawful : Leads empty_recipe (rows_of bytes) recipe
-  pub answer : HasTooManyFiles recipe status text ⊎ TriesAll recipe (range_in recipe target slack) status text
-
--- how `best` ends over the bytes of its recipe
-abbrev pub BestOver : Amount → Amount → Status → List ℕ → List ℕ → Type 0
-BestOver target slack status text bytes = RefusesText bytes status text ⊎ AnswersText bytes target slack status text
+-- how `best` ends over its recipe
+abbrev pub BestOf : Amount → Amount → Status → List ℕ → RecipeValue → Type 0
+BestOf target slack status text recipe = HasTooManyFiles recipe status text ⊎ TriesAll recipe (range_in recipe target slack) status text
 
 -- how `best RECIPE TARGET SLACK` ends over these byte strings
 abbrev pub BestEnds : Told → List ℕ → Amount → Amount → Status → List ℕ → Type 0
-BestEnds given name target slack status text = TextEnds given name MOST_RECIPE_BYTES status text (BestOver target slack status text)
+BestEnds given name target slack status text = RecipeEnds given name status text (BestOf target slack status text)

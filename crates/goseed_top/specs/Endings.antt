@@ -2,17 +2,19 @@
 use Rattle.std.specs.Prelude.{◌≡◌, ◌⊎◌, ℕ, List, ◌++◌, take, Bool, true, Result, Ok, Err}
 use Rattle.seed_io.specs.Shelf.{Told}
 use Rattle.goseed_words.specs.declared.order.Order.{Order}
-use Rattle.goseed_words.specs.declared.order.Order.TheVariants.{Best}
+use Rattle.goseed_words.specs.declared.order.Order.TheVariants.{Best, Weigh}
 use Rattle.goseed_words.specs.declared.order.WordError.{WordError}
 use Rattle.goseed_words.specs.declared.order.WordError.TheVariants.{Usage, BadWord}
 use Rattle.goseed_words.specs.Orders.{Mean}
 use Rattle.goseed_top.specs.declared.status.Status.{Status}
 use Rattle.goseed_top.specs.Refusals.{Refuses, usage, bad_word}
 use Rattle.goseed_top.specs.Best.{BestEnds}
+use Rattle.goseed_top.specs.Weigh.{WeighEnds}
 
 -- how an order ends
 abbrev pub OrderEnds : Told → Order → Status → List ℕ → Type 0
 OrderEnds given (Best recipe target slack) status text = BestEnds given recipe.now target slack status text
+OrderEnds given (Weigh recipe set) status text = WeighEnds given recipe.now set.now status text
 
 -- how words end that mean this: an order, or none
 abbrev pub MeaningEnds : Told → Result Order WordError → Status → List ℕ → Type 0

@@ -1,11 +1,13 @@
 pub mod Best
 pub mod Causes
+pub mod Determined
 pub mod Endings
 pub mod Reading
 pub mod Refusals
 pub mod Refused
 pub mod Tables
 pub mod Texts
+pub mod Weigh
 pub use Rattle.goseed_words.specs.Amounts
 pub use Rattle.goseed_words.specs.Commands
 pub use Rattle.goseed_words.specs.Orders

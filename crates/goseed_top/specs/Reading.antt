@@ -1,8 +1,13 @@
--- Reading the bytes of a name.
+-- Reading the recipe of a name.
 use Rattle.std.specs.Prelude.{◌≡◌, ◌⊎◌, ℕ, ◌<◌, ◌≤◌, List, length, Some, None}
+use Rattle.csv_rows.specs.Rows.{rows_of}
 use Rattle.seed_io.specs.Shelf.{Told}
+use Rattle.recipe_reader.specs.Recipes.{RecipeValue, empty_recipe}
+use Rattle.recipe_reader.specs.Reading.{Leads, IsFirstFault}
+use Rattle.recipe_reader.specs.declared.error.RecipeError.{RecipeError}
+use Rattle.goseed_top.specs.declared.limits.TheConstants.{MOST_RECIPE_BYTES}
 use Rattle.goseed_top.specs.declared.status.Status.{Status}
-use Rattle.goseed_top.specs.Refusals.{Refuses, not_there, too_long}
+use Rattle.goseed_top.specs.Refusals.{Refuses, not_there, too_long, no_recipe}
 
 -- no bytes have the name, and the command is refused
 pub record LacksName (given : Told) (name : List ℕ) (status : Status) (text : List ℕ) : Type 0 where
@@ -16,13 +21,39 @@ pub record HoldsTooMuch (given : Told) (name : List ℕ) (limit : ℕ) (status :
   pub long : limit < length bytes
   pub refuses : Refuses (too_long name) status text
 
--- the bytes of the name are read, and the rest holds of them
-pub record HoldsText (given : Told) (name : List ℕ) (limit : ℕ) (Rest : List ℕ → Type 0) : Type 0 where
-  pub bytes : List ℕ
+-- the name has these bytes, and they are read
+pub record Reads (given : Told) (name : List ℕ) (limit : ℕ) (bytes : List ℕ) : Type 0 where
   pub held : given name ≡ Some bytes
   pub short : length bytes ≤ limit
-  pub rest : Rest bytes
 
--- how a command ends that reads a name
-abbrev pub TextEnds : Told → List ℕ → ℕ → Status → List ℕ → (List ℕ → Type 0) → Type 0
-TextEnds given name limit status text Rest = LacksName given name status text ⊎ (HoldsTooMuch given name limit status text ⊎ HoldsText given name limit Rest)
+-- the bytes are no recipe's text, and the command is refused for the first fault
+pub record RefusesText (bytes : List ℕ) (status : Status) (text : List ℕ) : Type 0 where
+  pub error : RecipeError
+  pub fault : IsFirstFault empty_recipe (rows_of bytes) error
+  pub refuses : Refuses (no_recipe error) status text
+
+-- the bytes of the name are no recipe's text, and the command is refused
+pub record HoldsNoRecipe (given : Told) (name : List ℕ) (status : Status) (text : List ℕ) : Type 0 where
+  pub bytes : List ℕ
+  pub reads : Reads given name MOST_RECIPE_BYTES bytes
+  pub refused : RefusesText bytes status text
+
+-- the bytes of the name are the text of this recipe
+pub record HoldsRecipe (given : Told) (name : List ℕ) (recipe : RecipeValue) : Type 0 where
+  pub bytes : List ℕ
+  pub reads : Reads given name MOST_RECIPE_BYTES bytes
+  pub lawful : Leads empty_recipe (rows_of bytes) recipe
+
+-- the name gives no recipe, and the command is refused
+abbrev pub LacksRecipe : Told → List ℕ → Status → List ℕ → Type 0
+LacksRecipe given name status text = LacksName given name status text ⊎ (HoldsTooMuch given name MOST_RECIPE_BYTES status text ⊎ HoldsNoRecipe given name status text)
+
+-- the name gives a recipe, and the rest holds of it
+pub record OfRecipe (given : Told) (name : List ℕ) (Rest : RecipeValue → Type 0) : Type 0 where
+  pub recipe : RecipeValue
+  pub held : HoldsRecipe given name recipe
+  pub rest : Rest recipe
+
+-- how a command ends that reads the recipe of a name
+abbrev pub RecipeEnds : Told → List ℕ → Status → List ℕ → (RecipeValue → Type 0) → Type 0
+RecipeEnds given name status text Rest = LacksRecipe given name status text ⊎ OfRecipe given name Rest

@@ -4,18 +4,18 @@ ghost use Rattle.seed_model.specs.Ranges.{range_around, IsRange};
 ghost use Rattle.fault_count.specs.Counts.{HasCause};
 ghost use Rattle.recipe_reader.specs.Lawful.{IsRecipe};
 ghost use Rattle.goseed_words.specs.Amounts.{IsAmount, amount_in};
-ghost use Rattle.goseed_top.specs.Best.{BestEnds, BestOver, TriesAll};
+ghost use Rattle.goseed_top.specs.Best.{BestEnds, BestOf, TriesAll};
 ghost use Rattle.goseed_top.specs.Endings.{Over};
 
-use crate::limits::MOST_RECIPE_BYTES;
+use crate::best_text::{text_of_best, text_of_none};
 use crate::merged_table::merged_table;
+use crate::reading::recipe_named;
 use crate::refusal::Refusal;
 use crate::report::{Halt, Report, or_halt, refused};
 use crate::status::Status;
-use crate::text::{text_of_best, text_of_none};
 use goseed_words::Amount;
-use recipe_reader::{Recipe, RecipeError, read_recipe};
-use seed_io::{ReadError, Shelf, read_all};
+use recipe_reader::Recipe;
+use seed_io::Shelf;
 use seed_model::limits::{MOST_BYTES, MOST_TRIED_FILES};
 use seed_model::{NoMemory, Range, range_of, try_all};
 use std::alloc::Global;
@@ -35,37 +35,29 @@ pub(crate) fn best<F: Shelf>(
     ensures tells { F.tells shelf.new ≡ F.tells shelf.old }
     ensures same { F.map shelf.new ≡ F.map shelf.old }
 {
-    match read_all(alloc, shelf, name, MOST_RECIPE_BYTES) {
-        Ok(text) => or_halt(best_of_text(alloc, &text, target, slack)),
-        Err(ReadError::NotThere) => or_halt(refused(alloc, &Refusal::NotThere { name })),
-        Err(ReadError::TooLong) => or_halt(refused(alloc, &Refusal::TooLong { name })),
-        Err(ReadError::Fault) => Err(Halt::Outside),
-        Err(ReadError::Memory) => Err(Halt::Memory),
+    match recipe_named(alloc, shelf, name)? {
+        Ok(recipe) => or_halt(best_of(alloc, &recipe, target, slack)),
+        Err(report) => Ok(report),
     }
 }
 
-/// Finds the best set of the files of a recipe's text.
-fn best_of_text(
+/// Finds the best set of a recipe's files.
+fn best_of(
     alloc: Global,
-    text: &[u8],
+    recipe: &Recipe,
     target: Amount,
     slack: Amount,
 ) -> Result<Report, NoMemory>
     requires target { IsAmount target }
     requires slack { IsAmount slack }
-    ensures { IfOk result (λ report. BestOver target slack report.status report.text.items text.now) }
+    ensures { IfOk result (λ report. BestOf target slack report.status report.text.items recipe.now) }
 {
-    let recipe = match read_recipe(alloc, text) {
-        Ok(recipe) => recipe,
-        Err(RecipeError::Memory) => return Err(NoMemory),
-        Err(error) => return refused(alloc, &Refusal::NoRecipe(error)),
-    };
     let files = recipe.files();
     if files > MOST_TRIED_FILES {
         return refused(alloc, &Refusal::TooManyFiles { files });
     }
     let range = range_within(recipe.total(), target, slack);
-    best_of_recipe(alloc, &recipe, &range)
+    best_in_range(alloc, recipe, &range)
 }
 
 /// The range of a target and a slack, percents being those of a total.
@@ -93,7 +85,7 @@ fn bytes_in(total: u64, amount: Amount) -> u64
 }
 
 /// Finds the best set of a recipe's files in a range.
-fn best_of_recipe(alloc: Global, recipe: &Recipe, range: &Range) -> Result<Report, NoMemory>
+fn best_in_range(alloc: Global, recipe: &Recipe, range: &Range) -> Result<Report, NoMemory>
     requires recipe { IsRecipe recipe.now }
     requires few { length recipe.now.files ≤ MOST_TRIED_FILES }
     requires range { IsRange range.now }

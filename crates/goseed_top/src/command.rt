@@ -9,6 +9,7 @@ use crate::best::best;
 use crate::refusal::Refusal;
 use crate::report::{Halt, Report, or_halt, refused};
 use crate::status::Status;
+use crate::weigh::weigh;
 use goseed_words::{Order, WordError, order_of};
 use seed_io::{Shelf, Sink, SinkError};
 use std::alloc::Global;
@@ -79,5 +80,6 @@ fn report_of_order<F: Shelf>(alloc: Global, order: Order, shelf: &mut F) -> Resu
             target,
             slack,
         } => best(alloc, shelf, recipe, target, slack),
+        Order::Weigh { recipe, set } => weigh(alloc, shelf, recipe, set),
     }
 }

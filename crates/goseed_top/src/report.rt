@@ -1,5 +1,5 @@
 // What a command is to print.
-ghost use Rattle.std.specs.Prelude.{◌≡◌, IfOk, IfErr};
+ghost use Rattle.std.specs.Prelude.{◌≡◌, Ok, IfOk, IfErr};
 ghost use Rattle.goseed_top.specs.Refusals.{Refuses};
 ghost use Rattle.goseed_top.specs.Refused.{refusal_of};
 
@@ -35,13 +35,13 @@ pub(crate) fn refused(alloc: Global, refusal: &Refusal) -> Result<Report, NoMemo
     })
 }
 
-/// A report, or the halt for want of memory.
-pub(crate) fn or_halt(report: Result<Report, NoMemory>) -> Result<Report, Halt>
-    ensures ok { IfOk result (λ made. report ≡ Ok made) }
+/// What was made, or the halt for want of memory.
+pub(crate) fn or_halt<T: Drop>(made: Result<T, NoMemory>) -> Result<T, Halt>
+    ensures ok { IfOk result (λ value. made ≡ Ok value) }
     ensures err { IfErr result (λ halt. halt ≡ Halt.Memory) }
 {
-    match report {
-        Ok(report) => Ok(report),
+    match made {
+        Ok(value) => Ok(value),
         Err(NoMemory) => Err(Halt::Memory),
     }
 }

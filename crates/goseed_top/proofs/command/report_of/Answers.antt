@@ -1,6 +1,5 @@
-use Rattle.std.proofs.Common.{◌≡◌}
 use Rattle.goseed_top.proofs.RunLemmas.{ends_usage, ends_bad_word, ends_order}
-use Rattle.goseed_top.proofs.BestLemmas.{through_halt}
+use Rattle.goseed_top.proofs.ReadingLemmas.{through_halt}
 use Rattle.goseed_top.proofs.command.report_of.Goals as goal
 
 pub returns-in-Ok-clause-report : goal.returns-in-Ok-clause-report

@@ -1,4 +1,4 @@
-use Rattle.std.proofs.Common.{◌≡◌, ◌∙◌, ap, refl}
+use Rattle.std.proofs.Common.{◌∙◌, ap, refl}
 use Rattle.goseed_top.specs.Refusals.{no_recipe}
 use Rattle.recipe_reader.specs.declared.error.RecipeError.{RecipeError}
 use Rattle.goseed_top.proofs.RefusalLemmas.{no_word, one_word, two_words, three_words}

@@ -1,4 +1,4 @@
-use Rattle.std.proofs.Common.{◌≡◌, ◌∙◌, ap, refl}
+use Rattle.std.proofs.Common.{ap}
 use Rattle.goseed_top.specs.Refused.{refusal_of}
 use Rattle.goseed_top.specs.declared.refusal.Refusal.{Refusal}
 use Rattle.goseed_top.proofs.RefusalLemmas.{no_word, one_word}

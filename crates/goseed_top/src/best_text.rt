@@ -1,12 +1,13 @@
-// The lines that commands print.
-ghost use Rattle.std.specs.Prelude.{◌≡◌, ◌++◌, length, codes, IfOk, OnOk};
+// The lines that `best` prints.
+ghost use Rattle.std.specs.Prelude.{◌≡◌, ◌++◌, ◌<◌, [], length, slice_index_or, IfOk, OnOk};
 ghost use Rattle.seed_model.specs.Files.{holds};
 ghost use Rattle.recipe_reader.specs.Recipes.{table_of};
 ghost use Rattle.goseed_top.specs.Tables.{HasSumsOf};
-ghost use Rattle.goseed_top.specs.Texts.{line, number_line, file_lines, plan_lines, best_text, none_text};
+ghost use Rattle.goseed_top.specs.Texts.{file_line, file_lines, plan_lines, best_text, none_text};
 
+use crate::lines::{add, add_line, add_number};
 use recipe_reader::Recipe;
-use seed_model::{NoMemory, PlanSet, Table, migrated, replicated, write_number};
+use seed_model::{NoMemory, PlanSet, Table, migrated, replicated};
 use seed_text::write_set;
 use std::alloc::Global;
 
@@ -57,37 +58,19 @@ fn add_files(text: &mut Vec<u8>, recipe: &Recipe, plan: &PlanSet) -> Result<(), 
     ensures { OnOk result (text.new.items ≡ text.old.items ++ file_lines (holds plan.now) recipe.now.files) }
 {
     for file in 0..recipe.files() {
-        if plan.contains(file) {
-            add_line(text, b"file", recipe.file_name(file).as_bytes())?;
-        }
+        add_file(text, recipe, plan, file)?;
     }
     Ok(())
 }
 
-/// Puts a line behind a text: a word, a space and the rest.
-fn add_line(text: &mut Vec<u8>, word: &[u8], rest: &[u8]) -> Result<(), NoMemory>
-    ensures { OnOk result (text.new.items ≡ text.old.items ++ line (word.now ++ codes " " ++ rest.now)) }
+/// Puts the line of a file behind a text, where the plan has it.
+fn add_file(text: &mut Vec<u8>, recipe: &Recipe, plan: &PlanSet, file: u32) -> Result<(), NoMemory>
+    requires width { length plan.now ≡ length recipe.now.files }
+    requires file { file < length recipe.now.files }
+    ensures { OnOk result (text.new.items ≡ text.old.items ++ file_line (holds plan.now) (file, slice_index_or recipe.now.files file [])) }
 {
-    add(text, word)?;
-    add(text, b" ")?;
-    add(text, rest)?;
-    add(text, b"\n")
-}
-
-/// Puts a line behind a text: a word, a space and a number.
-fn add_number(text: &mut Vec<u8>, word: &[u8], number: u64) -> Result<(), NoMemory>
-    ensures { OnOk result (text.new.items ≡ text.old.items ++ number_line word.now number) }
-{
-    add(text, word)?;
-    add(text, b" ")?;
-    write_number(number as u128, text)?;
-    add(text, b"\n")
-}
-
-/// Puts bytes behind a text.
-fn add(text: &mut Vec<u8>, bytes: &[u8]) -> Result<(), NoMemory>
-    ensures { OnOk result (text.new.items ≡ text.old.items ++ bytes.now) }
-{
-    text.extend_from_slice(bytes)?;
+    if plan.contains(file) {
+        return add_line(text, b"file", recipe.file_name(file).as_bytes());
+    }
     Ok(())
 }

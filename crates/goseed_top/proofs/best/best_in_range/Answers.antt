@@ -1,6 +1,6 @@
-use Rattle.std.proofs.Common.{◌≡◌, ◌∙◌, inl, inr, refl}
+use Rattle.std.proofs.Common.{◌∙◌, inl, inr, refl}
 use Rattle.seed_model.specs.Files.{holds}
-use Rattle.goseed_top.proofs.best.best_of_recipe.Goals as goal
+use Rattle.goseed_top.proofs.best.best_in_range.Goals as goal
 
 pub returns-in-Some : goal.returns-in-Some
 returns-in-Some c =
