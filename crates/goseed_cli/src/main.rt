@@ -14,8 +14,10 @@ use std::rt::Env;
 fn main(rt: HostRuntime) -> ExitCode {
     let words = match words_of(&rt) {
         Ok(words) => words,
-        Err(e) if e.kind() == ErrorKind::OutOfMemory => return ExitCode::from(5),
-        Err(_) => return ExitCode::from(4),
+        Err(e) if e.kind() == ErrorKind::OutOfMemory => {
+            return ExitCode::from(code_of(Status::Memory));
+        }
+        Err(_) => return ExitCode::from(code_of(Status::Outside)),
     };
     let mut shelf = FolderShelf::new(&rt);
     let mut out = StdSink::new(&rt);
