@@ -5,6 +5,11 @@ use Rattle.std.specs.Prelude.{◌≡◌, ◌≢◌, ℕ, ◌+◌, ◌-◌, ◌^�
 abbrev pub last_count : ℕ
 last_count = 2 ^ 64 - 1
 
+-- the count stands at its last value: from then on each call of its object answers a fault, as `HasCause` says, and
+-- changes nothing, for which each call has the clause `over { IsOver (faults self.old) → self.new ≡ self.old }`
+abbrev pub IsOver : ℕ → Type 0
+IsOver count = count ≡ last_count
+
 -- one more, or the last value again
 abbrev pub counted_up : ℕ → ℕ
 counted_up count = min (count + 1) last_count
@@ -23,8 +28,8 @@ pub record HasCause {T E : Type 0} (fault : E) (before now : ℕ) (result : Resu
   pub later : before ≤ now
   pub failed : IsErrOf result fault → Rose before now
   pub kept : result ≢ Err fault → now ≡ before
-  -- an object whose count stands at its last value answers nothing else
-  pub ended : before ≡ last_count → IsErrOf result fault
+  -- an object that is over answers nothing else
+  pub ended : IsOver before → IsErrOf result fault
 
 -- a call that hands on the faults of an object: it answers a fault only where that object's count rose, and always
 -- where it truly rose

@@ -1,6 +1,6 @@
 // Faults that come at calls of given numbers, for objects in memory.
 ghost use Rattle.std.specs.Prelude.{◌≡◌, ◌≤◌, ◌↔◌, IsTrue};
-ghost use Rattle.fault_count.specs.Counts.{last_count, counted_up};
+ghost use Rattle.fault_count.specs.Counts.{last_count, IsOver, counted_up};
 ghost use Rattle.fault_count.specs.Plans.{NextCall};
 
 use std::marker::Model;
@@ -61,7 +61,7 @@ impl FaultPlan {
 
     /// Whether the faults stand at their last value, where every call is refused.
     pub fn is_over(&self) -> bool
-        ensures over { IsTrue result ↔ (self.now.faults ≡ last_count) }
+        ensures over { IsTrue result ↔ IsOver self.now.faults }
         ensures bounded { self.now.faults ≤ last_count }
     {
         self.faults == u64::MAX

@@ -1,6 +1,6 @@
 // The count of an object whose calls the host may refuse.
 ghost use Rattle.std.specs.Prelude.{◌≡◌, ◌≤◌, ◌↔◌, IsTrue};
-ghost use Rattle.fault_count.specs.Counts.{last_count, counted_up};
+ghost use Rattle.fault_count.specs.Counts.{last_count, IsOver, counted_up};
 
 use std::marker::Model;
 
@@ -31,7 +31,7 @@ impl FaultTally {
 
     /// Whether the count stands at its last value, where every call is refused.
     pub fn is_over(&self) -> bool
-        ensures over { IsTrue result ↔ (self.now ≡ last_count) }
+        ensures over { IsTrue result ↔ IsOver self.now }
         ensures bounded { self.now ≤ last_count }
     {
         self.count == u64::MAX
