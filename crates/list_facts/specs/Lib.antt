@@ -1,0 +1,4 @@
+pub mod Firsts
+pub mod Inside
+pub mod Keyed
+pub mod Listed
