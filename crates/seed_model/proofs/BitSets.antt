@@ -1,10 +1,11 @@
 -- Lists of bits, packed in words.
-use Rattle.std.specs.Prelude.{◌==◌}
-use Rattle.std.proofs.Common.{◌≡◌, ◌≢◌, ◌∙◌, ◌+◌, ◌/◌, ◌%◌, ◌<◌, ◌∷◌, [], ℕ, zero, suc, List, Bool, false, refl, sym, ap, length, get_or, arith, inl, inr, replicate, add-zero}
+use Rattle.std.specs.Prelude.{◌==◌, not}
+use Rattle.std.specs.Bool.{beq}
+use Rattle.std.proofs.Common.{◌≡◌, ◌≢◌, ◌∙◌, ◌+◌, ◌/◌, ◌%◌, ◌*◌, ◌<◌, ◌≤◌, ◌∷◌, [], ℕ, zero, suc, List, Bool, true, false, refl, sym, ap, length, get_or, arith, inl, inr, replicate, add-zero}
 use Rattle.std.proofs.Math.ListN.{set}
 use Rattle.std.specs.Int.{bit_at}
 use Rattle.std.proofs.lemmas.List.{get_or-set_same, get_or-set_other, length-set}
-use Rattle.std.proofs.lemmas.Bool.{cases_Bool, eqb-true}
+use Rattle.std.proofs.lemmas.Bool.{cases_Bool, cases_lt, eqb-true}
 use Rattle.std.proofs.lemmas.Bool.Decides.{nat_tests}
 use Rattle.std.proofs.lemmas.Nat.Bits.{bit_at-zero}
 use Rattle.std.proofs.lemmas.Grind.{get_or_default_zero}
@@ -84,3 +85,30 @@ pub get-bits_of : (n : ℕ) (words : List ℕ) (f : ℕ) → f < n → get_or (b
 get-bits_of n words f lt =
     let at : 0 + f ≡ f = omega arith in
     rw at at (get-bits_from words 0 n f lt)
+
+-- past the end no file is in a set
+pub past_end : (xs : List Bool) (i : ℕ) → length xs ≤ i → get_or xs i false ≡ false
+past_end [] i h = refl
+past_end (x ∷ xs) zero h = absurd (omega arith)
+past_end (x ∷ xs) (suc i) h = past_end xs i (omega arith)
+
+-- sets with one word have the same of its files
+pub word-agrees : (n m : ℕ) (words others : List ℕ) (word x y : ℕ) → n ≡ m → word < length words → word < length others → x ≡ get_or words word x → y ≡ get_or others word y → x ≡ y
+    → (file : ℕ) → 64 * word ≤ file → file < 64 * word + 64 → get_or (bits_of n words) file false ≡ get_or (bits_of m others) file false
+word-agrees n m words others word x y count lt lt2 read read2 same file low high = elim (cases_lt file n) [
+  | inl below ↦
+      let at : file / 64 ≡ word = omega arith in
+      let one : get_or words (file / 64) 0 ≡ x = ap (λ (k : ℕ). get_or words k 0) at ∙ sym (item_at words word x lt read) in
+      let two : y ≡ get_or others (file / 64) 0 = item_at others word y lt2 read2 ∙ ap (λ (k : ℕ). get_or others k 0) (sym at) in
+      let bit : has_bit words file ≡ has_bit others file = ap (λ (w : ℕ). bit_at w (file % 64) == 1) (one ∙ (same ∙ two)) in
+      get-bits_of n words file below ∙ (bit ∙ sym (get-bits_of m others file (omega (arith, below, count))))
+  | inr past ↦
+      past_end (bits_of n words) file (omega (arith, past, length-bits_from words 0 n)) ∙ sym (past_end (bits_of m others) file (omega (arith, past, count, length-bits_from others 0 m)))
+]
+
+-- flags that a test tells apart
+pub told_apart : (p q a b : Bool) → p ≡ a → q ≡ b → not (beq p q) ≡ true → a ≢ b
+told_apart true true a b e f t = cc t
+told_apart false false a b e f t = cc t
+told_apart true false a b e f t = λ same. cc (e, f, same)
+told_apart false true a b e f t = λ same. cc (e, f, same)

@@ -1,6 +1,7 @@
 -- Sums over the classes of a table.
-use Rattle.std.proofs.Common.{◌≡◌, ◌+◌, ◌<◌, ◌≤◌, ◌∷◌, [], ℕ, List, Bool, true, false, length, take, get_or, arith, inl, inr, refl, ap, if◌then◌else◌}
+use Rattle.std.proofs.Common.{◌≡◌, ◌+◌, ◌<◌, ◌≤◌, ◌∷◌, [], ℕ, List, Bool, true, false, length, take, get_or, arith, inl, inr, refl, sym, ap, ◌∙◌, if◌then◌else◌}
 use Rattle.std.specs.Prelude.{sum_by, ◌&&◌, not, IsTrue}
+use Rattle.std.specs.Bool.{beq}
 use Rattle.std.specs.List.{list_all, list_any, AllByRecursion}
 use Rattle.std.proofs.lemmas.Bool.{cases_Bool}
 use Rattle.std.proofs.lemmas.List.Elements.{recursion_from_All}
@@ -116,3 +117,23 @@ files_alone table one other t agrees =
 
 pub stays_within_total : StaysWithinTotal
 stays_within_total table set = sum_by-le-sum_by (counted (list_any set)) (λ (c : Class). c.size) table.classes (counted_le (list_any set))
+
+-- users that are not all as one is are split, whichever that one is
+differs_from : (set : ℕ → Bool) (inside : Bool) (users : List ℕ) → list_any (λ file. not (beq (set file) inside)) users ≡ (if inside then not (list_all set users) else list_any set users)
+differs_from set true [] = refl
+differs_from set false [] = refl
+differs_from set true (u ∷ us) = elim (cases_Bool (set u)) [ inl t ↦ rw t (differs_from set true us) | inr f ↦ rw f refl ]
+differs_from set false (u ∷ us) = elim (cases_Bool (set u)) [ inl t ↦ rw t refl | inr f ↦ rw f (differs_from set false us) ]
+
+pub split_by_first : (set : ℕ → Bool) (users : List ℕ) (first : ℕ) (inside : Bool) → 0 < length users → first ≡ get_or users 0 first → inside ≡ set first
+    → list_any (λ file. not (beq (set file) inside)) users ≡ some_but_not_all set users
+split_by_first set [] first inside some is read = absurd (omega arith)
+split_by_first set (u ∷ us) first inside some is read = differs_from set inside (u ∷ us) ∙ as_first inside (sym (read ∙ ap set is))
+  where
+    and_true : (b : Bool) → b ≡ (b && true)
+    and_true true = refl
+    and_true false = refl
+
+    as_first : (b : Bool) → set u ≡ b → (if b then not (list_all set (u ∷ us)) else list_any set (u ∷ us)) ≡ some_but_not_all set (u ∷ us)
+    as_first true t = rw t refl
+    as_first false f = rw f (and_true (list_any set us))

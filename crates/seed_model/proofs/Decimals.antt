@@ -6,11 +6,11 @@ use Rattle.seed_model.specs.Numbers.{IsNumeral}
 use Rattle.std.specs.Int.{IsInRange}
 use Rattle.std.specs.Str.{all_ascii_digits}
 use Rattle.std.specs.Str.Parse.{AllDigits, digits_value, digits_value_after}
-use Rattle.std.proofs.lemmas.List.{append-nil, drop-set, drop_all}
+use Rattle.std.proofs.lemmas.List.{append-nil, drop-set, drop_all, get_or_default}
 use Rattle.std.proofs.Math.ListN.{set}
 use Rattle.std.proofs.lemmas.Fmt.{decimal_digit, decimal_step_wide, decimal_by_steps_wide, decimal_is_IsNumeral_wide, length-decimal-le_wide}
 use Rattle.std.proofs.lemmas.Str.{digit_value_digit}
-use Rattle.std.proofs.lemmas.Str.Parse.{digit_from_value, digits_value-take-le, IsNumeralModel, numerals_by_value, tells_all_ascii_digits}
+use Rattle.std.proofs.lemmas.Str.Parse.{digit_at, digit_from_value, digits_value-take-le, IsNumeralModel, numerals_by_value, tells_all_ascii_digits}
 use Rattle.std.proofs.lemmas.Int.Digits.{digits_value-lt, digits_value_more, digits_more}
 use Rattle.std.proofs.Math.Nat.{pow-suc}
 use Rattle.std.proofs.lemmas.Bool.{cases_lt}
@@ -193,3 +193,12 @@ spells_past text limit low below n e = elim (cases_lt n (10 ^ 64)) [
   | inl small ↦ below n small e
   | inr big ↦ omega arith
 ]
+
+-- the bytes of a number's text are digits, and so above a space
+pub above_spaces : (n k d : ℕ) → n < 10 ^ 64 → k < length (decimal n) → 32 < get_or (decimal n) k d
+above_spaces n k d small lt =
+    let digit = digit_at (decimal n) k (decimal_is_IsNumeral_wide n small).0.1 lt in
+    rw (get_or_default (decimal n) k d 0 lt) (above (get_or (decimal n) k 0) digit)
+  where
+    above : (byte : ℕ) → IsInRange 48 57 byte → 32 < byte
+    above byte digit = grind (arith, digit)

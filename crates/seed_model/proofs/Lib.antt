@@ -1,6 +1,7 @@
 mod BitSets
-mod ClassSums
+pub mod ClassSums
 pub mod Decimals
+pub mod KeySums
 mod MaskBits
 mod MaskSums
 mod SubsetSums
@@ -8,3 +9,4 @@ mod ExactSums
 mod Ranks
 mod FirstBest
 mod Examples
+pub mod NodeMembers

@@ -3,8 +3,12 @@ pub mod Bits
 pub mod Candidates
 pub mod Differences
 pub mod Files
+pub mod Keys
+pub mod NodeLaws
+pub mod Nodes
 pub mod Numbers
 pub mod Masks
+pub mod Parts
 pub mod Ranges
 pub mod SumLaws
 pub mod Sums

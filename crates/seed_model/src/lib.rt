@@ -5,6 +5,7 @@
 pub mod best;
 pub mod limits;
 pub mod memory;
+pub mod node;
 pub mod numbers;
 pub mod plan_set;
 pub mod range;
@@ -12,7 +13,9 @@ pub mod sums;
 pub mod table;
 
 pub use best::try_all;
+pub use limits::limit_laws;
 pub use memory::NoMemory;
+pub use node::{Mix, Node, node_laws, undecided};
 pub use numbers::{number_laws, read_number, write_number};
 pub use plan_set::{PlanSet, first_difference};
 pub use range::{Range, range_of};

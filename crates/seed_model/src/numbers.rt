@@ -2,7 +2,7 @@
 ghost use Rattle.std.specs.Prelude.{◌≡◌, ◌++◌, ◌<◌, ◌≤◌, ◌^◌, ℕ, drop, length, slice_index, IsTrue, ◌↔◌, IfSome, IfNone, OnOk, OnErr};
 ghost use Rattle.std.specs.Fmt.{decimal};
 ghost use Rattle.std.specs.Str.Parse.{AllDigits, digits_value};
-ghost use Rattle.seed_model.specs.Numbers.{SpelledApart, SpelledByNumerals};
+ghost use Rattle.seed_model.specs.Numbers.{SpelledAboveSpaces, SpelledApart, SpelledByNumerals};
 
 use crate::memory::NoMemory;
 
@@ -13,6 +13,7 @@ const MOST_DIGITS: usize = 39;
 /// no such number.
 pub fn read_number(text: &[u8], limit: u128) -> Option<u128>
     ensures found { IfSome result (λ n. (text.now ≡ decimal n) × (n ≤ limit)) }
+    ensures only { IfSome result (λ n. (other : ℕ) → other < 2 ^ 128 → text.now ≡ decimal other → other ≡ n) }
     ensures none { IfNone result ((n : ℕ) → text.now ≡ decimal n → limit < n) }
 {
     if !is_led(text) {
@@ -84,49 +85,9 @@ fn write_digits(n: u128, digits: &mut [u8; MOST_DIGITS]) -> usize
     start
 }
 
-/// How numbers are spelled: no two alike, and just the numerals without a leading zero.
+/// How numbers are spelled: no two alike, just the numerals without a leading zero, and with no byte up to 32.
 pub fn number_laws()
     ensures one_spelling { SpelledApart }
     ensures form { SpelledByNumerals }
+    ensures above_spaces { SpelledAboveSpaces }
 {}
-
-#[cfg(test)]
-mod tests {
-    use super::*;
-    use std::test::Fail;
-
-    #[test]
-    fn reads_one_spelling_of_each_number(rt: HostRuntime) -> Result<(), Fail> {
-        let greatest = b"340282366920938463463374607431768211455";
-        let cases: [(&[u8], u128, Option<u128>); 13] = [
-            (b"0", 0, Some(0)),
-            (b"40", 40, Some(40)),
-            (b"40", 39, None),
-            (b"1024", u128::MAX, Some(1024)),
-            (b"", u128::MAX, None),
-            (b"00", u128::MAX, None),
-            (b"040", u128::MAX, None),
-            (b"4:", u128::MAX, None),
-            (b"+4", u128::MAX, None),
-            (b"4 ", u128::MAX, None),
-            (greatest, u128::MAX, Some(u128::MAX)),
-            (greatest, u128::MAX - 1, None),
-            (b"340282366920938463463374607431768211456", u128::MAX, None),
-        ];
-        for (text, limit, number) in cases {
-            assert_eq!(rt; read_number(text, limit), number);
-        }
-        Ok(())
-    }
-
-    #[test]
-    fn writes_behind_what_stands(rt: HostRuntime) -> Result<(), Fail> {
-        let mut out = Vec::new(rt.alloc());
-        out.push(b'=')?;
-        for number in [0u128, 7, 1024, u128::MAX] {
-            assert!(rt; write_number(number, &mut out).is_ok());
-        }
-        assert!(rt; out.as_slice() == b"=071024340282366920938463463374607431768211455".as_slice());
-        Ok(())
-    }
-}

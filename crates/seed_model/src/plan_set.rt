@@ -1,7 +1,7 @@
 // Sets of files, one bit a file.
-ghost use Rattle.std.specs.Prelude.{◌≡◌, ◌<◌, IfNone, IfOk, IfSome, slice_set, replicate, length, true, false};
+ghost use Rattle.std.specs.Prelude.{◌≡◌, ◌≢◌, ◌+◌, ◌*◌, ◌<◌, IfNone, IfOk, IfSome, slice_set, replicate, length, true, false};
 ghost use Rattle.seed_model.specs.Files.{holds};
-ghost use Rattle.seed_model.specs.Differences.{IsFirstDifference};
+ghost use Rattle.seed_model.specs.Differences.{AgreesWithin, IsFirstDifference};
 
 use crate::memory::NoMemory;
 use std::alloc::Global;
@@ -87,6 +87,15 @@ impl PlanSet {
     {
         self.words[(file / 64) as usize] &= !(1 << (file % 64));
     }
+
+    /// Whether this set and another of as many files have the same of the 64 files of a word.
+    fn shares_word(&self, other: &PlanSet, word: u32) -> bool
+        requires same { length self.now ≡ length other.now }
+        requires within { 64 * word < length self.now }
+        ensures { result ≡ true → AgreesWithin (64 * word) (64 * word + 64) self.now other.now }
+    {
+        self.words[word as usize] == other.words[word as usize]
+    }
 }
 
 /// The first file that is in exactly one of two sets of the same number of files; None where the sets are equal.
@@ -95,7 +104,29 @@ pub fn first_difference(one: &PlanSet, other: &PlanSet) -> Option<u32>
     ensures found { IfSome result (IsFirstDifference one.now other.now) }
     ensures none { IfNone result (one.now ≡ other.now) }
 {
-    for file in 0..one.files() {
+    for word in 0..one.files().div_ceil(64) {
+        if !one.shares_word(other, word) {
+            let difference = difference_in_word(one, other, word);
+            if difference.is_some() {
+                return difference;
+            }
+        }
+    }
+    None
+}
+
+/// The first of the 64 files of a word that is in exactly one of the sets.
+fn difference_in_word(one: &PlanSet, other: &PlanSet, word: u32) -> Option<u32>
+    requires same { length one.now ≡ length other.now }
+    requires within { 64 * word < length one.now }
+    ensures found { IfSome result (λ file. (file < length one.now) × (holds one.now file ≢ holds other.now file) × AgreesWithin (64 * word) file one.now other.now) }
+    ensures none { IfNone result (AgreesWithin (64 * word) (64 * word + 64) one.now other.now) }
+{
+    let files = one.files();
+    let first = 64 * word;
+    let count = (files - first).min(64);
+    for place in 0..count {
+        let file = first + place;
         if one.contains(file) != other.contains(file) {
             return Some(file);
         }

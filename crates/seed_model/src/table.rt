@@ -1,10 +1,14 @@
 // Tables of classes: chunks of one set of users, taken together.
-ghost use Rattle.std.specs.Prelude.{◌≡◌, ◌<◌, length, All};
-ghost use Rattle.std.specs.List.{HoldsAt, list_all, list_any};
+ghost use Rattle.std.specs.Prelude.{◌≡◌, ◌<◌, ◌≤◌, ◌&&◌, All, length, not};
+ghost use Rattle.std.specs.Bool.{beq};
+ghost use Rattle.std.specs.List.{list_all, list_any};
+ghost use Rattle.std.specs.List.Sorted.{IsStrictlyIncreasing};
 ghost use Rattle.seed_model.specs.Files.{holds};
+ghost use Rattle.seed_model.specs.Keys.{class_at};
 ghost use Rattle.seed_model.specs.Sums.{total_of};
 ghost use Rattle.seed_model.specs.Tables.{IsTable};
 
+use crate::limits::MOST_BYTES;
 use crate::plan_set::PlanSet;
 use std::marker::Model;
 
@@ -38,7 +42,7 @@ impl Users {
     }
 
     /// Whether each user is in the set.
-    pub(crate) fn all_in(&self, set: &PlanSet) -> bool
+    pub fn all_in(&self, set: &PlanSet) -> bool
         requires { All (λ file. file < length set.now) self.now }
         ensures { result ≡ list_all (holds set.now) self.now }
     {
@@ -46,11 +50,30 @@ impl Users {
     }
 
     /// Whether some user is in the set.
-    pub(crate) fn any_in(&self, set: &PlanSet) -> bool
+    pub fn any_in(&self, set: &PlanSet) -> bool
         requires { All (λ file. file < length set.now) self.now }
         ensures { result ≡ list_any (holds set.now) self.now }
     {
         self.list.iter().any(|file| set.contains(*file))
+    }
+
+    /// Whether some user is in the set and some user is not, told in one pass.
+    pub fn split_by(&self, set: &PlanSet) -> bool
+        requires { All (λ file. file < length set.now) self.now }
+        ensures { result ≡ (list_any (holds set.now) self.now && not (list_all (holds set.now) self.now)) }
+    {
+        if self.list.is_empty() {
+            return false;
+        }
+        self.differs_from(set, set.contains(self.list[0]))
+    }
+
+    /// Whether some user is in the set where the others are not, or not where they are.
+    fn differs_from(&self, set: &PlanSet, inside: bool) -> bool
+        requires { All (λ file. file < length set.now) self.now }
+        ensures { result ≡ list_any (λ file. not (beq (holds set.now file) inside)) self.now }
+    {
+        self.list.iter().any(|file| set.contains(*file) != inside)
     }
 }
 
@@ -120,7 +143,8 @@ impl Table {
     /// The bytes of the chunks of a class.
     pub fn size(&self, class: u32) -> u64
         requires { class < length self.now.classes }
-        ensures { HoldsAt (λ c. c.size ≡ result) self.now.classes class }
+        ensures size { result ≡ (class_at self.now.classes class).size }
+        ensures within { result ≤ MOST_BYTES }
     {
         let class = &self.classes[class as usize];
         class.size
@@ -129,14 +153,17 @@ impl Table {
     /// The users of a class, by file number in rising order.
     pub fn users(&self, class: u32) -> &[u32]
         requires { class < length self.now.classes }
-        ensures { HoldsAt (λ c. c.users ≡ result.now) self.now.classes class }
+        ensures users { result.now ≡ (class_at self.now.classes class).users }
+        ensures some { 0 < length result.now }
+        ensures rising { IsStrictlyIncreasing result.now }
+        ensures below { All (λ file. file < self.now.files) result.now }
     {
         let class = &self.classes[class as usize];
         class.users.list()
     }
 
-    /// The classes, in order.
-    pub(crate) fn class_list(&self) -> &[Class]
+    /// The classes, in order, and with them that the table keeps to the limits.
+    pub fn class_list(&self) -> &[Class]
         ensures items { result.now ≡ self.now.classes }
         ensures table { IsTable self.now }
     {

@@ -21,3 +21,6 @@ returns-clause-found c =
     let read = c.in-Some.ensures.found in
     let spelled = spell_value c.args.text.now read.0 led.0 led.1 (omega (arith, read.1)) in
     (sym (rw (← read.1) at spelled), omega arith)
+
+pub returns-clause-only : goal.returns-clause-only
+returns-clause-only c = λ other small e. let v = value_of_spelling c.args.text.now other (omega (arith, small)) e in omega (arith, v.1, c.in-Some.ensures.found.1)

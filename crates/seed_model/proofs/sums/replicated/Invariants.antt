@@ -1,8 +1,0 @@
-use Rattle.std.proofs.Common.{◌≡◌, take}
-use Rattle.seed_model.specs.Files.{holds}
-use Rattle.seed_model.specs.Sums.{bytes_where}
-use Rattle.seed_model.proofs.ClassSums.{some_but_not_all}
-use Rattle.seed_model.proofs.sums.replicated.Given as goal
-
-abbrev pub invariant-loop-class : goal.invariant-loop-class
-invariant-loop-class l = l.total ≡ bytes_where (some_but_not_all (holds l.set)) (take l.class-index l.class-items)
