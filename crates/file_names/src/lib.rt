@@ -64,66 +64,9 @@ pub fn file_name_of(bytes: &[u8]) -> Option<&str>
     Some(name)
 }
 
-/// No file name begins with the bytes EF BB BF, which a reader of rows skips at the start of a text.
+/// A file name has at most 255 bytes. None begins with the bytes EF BB BF, which a reader of rows skips at the start of
+/// a text.
 pub fn file_name_laws()
+    ensures longest { LONGEST_NAME ≡ 255 }
     ensures unmarked { (name : List ℕ) → IsFileName name → ¬ StartsWithMark name }
 {}
-
-#[cfg(test)]
-mod tests {
-    use super::*;
-
-    #[test]
-    fn bytes_that_name_a_file(rt: HostRuntime) {
-        let longest = [b'n'; 255];
-        let names: [&[u8]; 8] = [
-            b"a",
-            longest.as_slice(),
-            b" ",
-            b"\xC2\xA0",
-            b"a\xEF\xBB\xBF",
-            b"\xEF\xBF\xBD",
-            b"photos/2019/\xC3\xA9t\xC3\xA9.raw",
-            b"\xF0\x9F\x8C\xB1",
-        ];
-        for bytes in names {
-            let named = match file_name_of(bytes) {
-                Some(name) => name.as_bytes() == bytes,
-                None => false,
-            };
-            assert!(rt; named);
-        }
-    }
-
-    #[test]
-    fn bytes_that_name_no_file(rt: HostRuntime) {
-        let too_long = [b'n'; 256];
-        let others: [&[u8]; 13] = [
-            b"",
-            too_long.as_slice(),
-            b"\x00",
-            b"a\x1F",
-            b"a\nb",
-            b"\x7F",
-            b"a\xC2\x80",
-            b"\xC2\x9F",
-            b"\xEF\xBB\xBFa",
-            b"\xEF\xBB\xBF",
-            b"\xFF",
-            b"a\xC2",
-            b"\xED\xA0\x80",
-        ];
-        for bytes in others {
-            assert!(rt; file_name_of(bytes).is_none());
-        }
-    }
-
-    #[test]
-    fn texts_that_name_a_file(rt: HostRuntime) {
-        assert!(rt; is_file_name("a"));
-        assert!(rt; is_file_name("\u{A0}\u{FEFF}"));
-        assert!(rt; !is_file_name(""));
-        assert!(rt; !is_file_name("\u{FEFF}a"));
-        assert!(rt; !is_file_name("a\u{9F}"));
-    }
-}
