@@ -1,12 +1,13 @@
 -- One record more.
-use Rattle.std.proofs.Common.{◌≡◌, ◌+◌, ◌<◌, ◌++◌, ◌∷◌, [], ℕ, List, Some, None, Option, refl, ap, true, false, inl, inr, suc, zero, length, arith, Bor, take, drop}
+use Rattle.std.proofs.Common.{◌≡◌, ◌+◌, ◌<◌, ◌≤◌, ◌++◌, ◌∷◌, [], ℕ, List, Some, None, Option, refl, ap, true, false, inl, inr, suc, zero, length, arith, Bor, take, drop}
 use Rattle.csv.specs.Machine.{next_record, ends_at_end, Read}
-use Rattle.csv.specs.Reading.{default_config, records_from, ReadsNext, NextIs, ReadRecord, source_of, pending_of, strip_bom}
+use Rattle.csv.specs.Reading.{default_config, records_from, ReadsNext, NextIs, ReadRecord, source_of, pending_of, strip_bom, is_bom}
 use Rattle.csv.specs.declared.reader.Reader.{Reader}
 use Rattle.std.specs.Prelude.{not, ◌&&◌, ◌==◌}
 use Rattle.std.proofs.lemmas.Bool.{cases_Bool}
 use Rattle.csv_rows.specs.Left.{rows_from, rows_left, IsBetween}
 use Rattle.csv.specs.declared.parser.State.{State}
+use Rattle.csv.specs.declared.parser.State.TheVariants as st
 use Rattle.csv_rows.proofs.Ends.{next-leaves}
 
 -- turns past the last byte change nothing
@@ -73,3 +74,26 @@ first_row old new fields b r =
 
 pub no_row : (old new : Reader (Bor (List ℕ))) (fields : List (List ℕ)) → IsBetween old → ReadRecord (λ s. Some s.now) old new false fields → rows_left (λ s. Some s.now) old ≡ []
 no_row old new fields b r = read_none old.state new.state _ (pending_of (Some new.rdr.now) new) fields (rw b.config at r.0)
+
+-- each row takes a byte at least
+few_from : (n : ℕ) (s : State) (xs : List ℕ) (o : Option Read) → next_record default_config s [] [] xs ≡ o → ends_at_end s ≡ false → length (records_from default_config n s xs) ≤ length xs
+unfolding records_from
+few_from zero s xs o h e = omega arith
+few_from (suc n) s xs None h e = rw h (omega arith)
+few_from (suc n) s xs (Some p) h e =
+    let l = next-leaves default_config s [] [] xs p h in
+    let fewer = l.fewer_from_start e in
+    let rest = few_from n p.1 p.2 (next_record default_config p.1 [] [] p.2) refl l.between in
+    rw h (omega (arith, fewer, rest))
+
+shorter : (text : List ℕ) → length (strip_bom text) ≤ length text
+unfolding strip_bom
+shorter [] = omega arith
+shorter (a ∷ []) = omega arith
+shorter (a ∷ b ∷ []) = omega arith
+shorter (a ∷ b ∷ c ∷ rest) = elim (cases_Bool (is_bom a b c)) [ inl t ↦ rw t (omega arith) | inr f ↦ rw f (omega arith) ]
+
+pub few_rows : (r : Reader (Bor (List ℕ))) (text : List ℕ) → r.state ≡ st.StartRecord → source_of (λ s. Some s.now) r ≡ Some (strip_bom text) → length (rows_left (λ s. Some s.now) r) ≤ length text
+few_rows r text start source =
+    let all = few_from (length (strip_bom text) + 1) st.StartRecord (strip_bom text) (next_record default_config st.StartRecord [] [] (strip_bom text)) refl refl in
+    rw (start, source) (omega (arith, all, shorter text))

@@ -1,4 +1,5 @@
 pub mod Found
 pub mod Left
 pub mod Rows
+pub mod Wants
 pub mod Written

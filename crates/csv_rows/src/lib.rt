@@ -3,8 +3,6 @@
 
 pub mod facts;
 pub mod reader;
-#[cfg(test)]
-mod tests;
 pub mod writer;
 
 pub use facts::{round_trip, row_facts};

@@ -1,10 +1,12 @@
 // The rows of a text, one at a time.
-ghost use Rattle.std.specs.Prelude.{◌≡◌, ◌∷◌, [], List, ℕ, IfOk, OnErr, if◌then◌else◌};
+ghost use Rattle.std.specs.Prelude.{◌≡◌, ◌≤◌, ◌∷◌, [], List, ℕ, length, IfOk, OnErr, if◌then◌else◌};
+ghost use Rattle.csv.specs.Reading.{error_kind};
 ghost use Rattle.csv.specs.Records.{fields_of};
 ghost use Rattle.csv_rows.specs.Found.{RowTaken};
 ghost use Rattle.csv_rows.specs.Rows.{rows_of};
+ghost use Rattle.csv_rows.specs.Wants.{IsWantOfMemory};
 
-use csv::{ByteRecord, Reader, ReaderBuilder};
+use csv::{ByteRecord, Error, ErrorKind, Reader, ReaderBuilder};
 use seed_model::NoMemory;
 use std::alloc::Global;
 use std::marker::Model;
@@ -29,9 +31,10 @@ impl<'t> Model for RowReader<'t> {
 }
 
 impl<'t> RowReader<'t> {
-    /// All rows of a text are left.
+    /// All rows of a text are left, each of which takes a byte of it at least.
     pub fn new(alloc: Global, text: &'t [u8]) -> Self
-        ensures { result ≡ rows_of text.now }
+        ensures rows { result ≡ rows_of text.now }
+        ensures few { length result ≤ length text.now }
     {
         let reader = ReaderBuilder::new()
             .has_headers(false)
@@ -52,14 +55,27 @@ impl<'t> RowReader<'t> {
         if self.done {
             return Ok(false);
         }
-        let Ok(found) = self.reader.read_byte_record(row) else {
-            self.done = true;
-            return Err(NoMemory);
+        let found = match self.reader.read_byte_record(row) {
+            Ok(found) => found,
+            Err(error) => {
+                self.done = true;
+                return Err(no_memory(error));
+            }
         };
         if !found {
             self.done = true;
             return Ok(false);
         }
         Ok(true)
+    }
+}
+
+// The only error there is where rows may have any lengths and any bytes.
+fn no_memory(error: Error) -> NoMemory
+    requires { IsWantOfMemory (error_kind error) }
+{
+    match error.into_kind() {
+        ErrorKind::OutOfMemory | ErrorKind::Io(_) => NoMemory,
+        _ => unreachable!(),
     }
 }
