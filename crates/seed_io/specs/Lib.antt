@@ -1,5 +1,8 @@
+pub mod Ahead
+pub mod Answered
 pub mod Failing
 pub mod Held
+pub mod Lines
 pub mod Memory
 pub mod Shelf
 pub mod Sink

@@ -1,19 +1,29 @@
 // Names as paths from the current folder.
-ghost use Rattle.std.specs.Prelude.{◌≡◌, ◌≤◌, false, None};
+ghost use Rattle.std.specs.Prelude.{◌≡◌, ◌≤◌, ◌+◌, false, None, IfOk, IfSome, OnErr};
+ghost use Rattle.std.specs.Io.{ReadsAtMost};
 ghost use Rattle.fault_count.specs.Counts.{counted_up};
 ghost use Rattle.seed_io.specs.declared.shelf.ShelfError.TheVariants.{Fault};
 
+use crate::open_file::OpenFile;
+use crate::streams::{read_some, write_front};
 use crate::{Shelf, ShelfError};
 use fault_count::FaultTally;
 use std::fs::{File, OpenOptions};
-use std::io::{ErrorKind, Read, Seek, SeekFrom, Write};
+use std::io;
+use std::io::{Error, ErrorKind, Seek, SeekFrom};
 use std::rt::Files;
 
 /// The files of the machine, each name a path from the current folder. It tells nothing: that the files do what they
-/// are told is trusted. Only a missing file is not there; anything else that the host refuses is a fault.
+/// are told is trusted. Only a missing file is not there; an empty name, and anything else that the host refuses, is a
+/// fault. A call that a signal interrupted is tried again.
+///
+/// A read that begins where the last one of this shelf, of the same name, ended goes on in the same open file, and seeks
+/// nothing. So what is read piece by piece is one file to its end, also where another takes its name meanwhile, and may
+/// be a pipe. Each other read opens the name anew.
 #[derive(Drop)]
 pub struct FolderShelf<'r, R: Files> {
     rt: &'r R,
+    kept: Option<OpenFile<R::File>>,
     tally: FaultTally,
 }
 
@@ -26,6 +36,7 @@ impl<'r, R: Files> FolderShelf<'r, R> {
     {
         FolderShelf {
             rt,
+            kept: None,
             tally: FaultTally::new(),
         }
     }
@@ -37,6 +48,50 @@ impl<'r, R: Files> FolderShelf<'r, R> {
     {
         self.tally.raise();
         ShelfError::Fault
+    }
+}
+
+/// The file of a name, at a place. A file that is read from its beginning need not be one that can be sought in.
+fn open_at<R: Files>(rt: &R, name: &str, at: u64) -> io::Result<R::File> {
+    if name.is_empty() {
+        return Err(Error::from(ErrorKind::InvalidInput));
+    }
+    let mut file = File::open(rt, name)?;
+    if 0 < at {
+        file.seek(SeekFrom::Start(at))?;
+    }
+    Ok(file)
+}
+
+/// Reads bytes of a name from a place on, in the file that is open where the reading goes on in it, and keeps the file
+/// that was read open. After an error none is.
+fn read_piece<R: Files>(
+    rt: &R,
+    kept: &mut Option<OpenFile<R::File>>,
+    name: &str,
+    at: u64,
+    into: &mut [u8],
+) -> io::Result<usize>
+    ensures bound { ReadsAtMost result into.new }
+    ensures name { IfOk result (λ n. IfSome kept.new (λ f. f.name.bytes ≡ name.now)) }
+    ensures place { IfOk result (λ n. IfSome kept.new (λ f. f.place ≡ at + n)) }
+    ensures none { OnErr result (kept.new ≡ None) }
+{
+    let mut file = match kept.take() {
+        Some(last) if last.goes_on(name, at) => last.file,
+        _ => open_at(rt, name, at)?,
+    };
+    let count = read_some(&mut file, into)?;
+    *kept = OpenFile::behind(name, at, count, file);
+    Ok(count)
+}
+
+/// Adds bytes to the file of a name, or makes it, and says whether all were taken.
+fn append_to<R: Files>(rt: &R, name: &str, bytes: &[u8]) -> bool {
+    let opened = OpenOptions::new().append(true).create(true).open(rt, name);
+    match opened {
+        Ok(mut file) => write_front(&mut file, bytes) == bytes.len(),
+        Err(_) => false,
     }
 }
 
@@ -53,16 +108,9 @@ impl<'r, R: Files> Shelf for FolderShelf<'r, R> {
         if self.tally.is_over() {
             return Err(ShelfError::Fault);
         }
-        let mut file = match File::open(self.rt, name) {
-            Ok(file) => file,
-            Err(e) if e.kind() == ErrorKind::NotFound => return Err(ShelfError::NotThere),
-            Err(_) => return Err(self.fault()),
-        };
-        if file.seek(SeekFrom::Start(at)).is_err() {
-            return Err(self.fault());
-        }
-        match file.read(into) {
+        match read_piece(self.rt, &mut self.kept, name, at, into) {
             Ok(count) => Ok(count),
+            Err(e) if e.kind() == ErrorKind::NotFound => Err(ShelfError::NotThere),
             Err(_) => Err(self.fault()),
         }
     }
@@ -71,6 +119,7 @@ impl<'r, R: Files> Shelf for FolderShelf<'r, R> {
         if self.tally.is_over() {
             return Err(ShelfError::Fault);
         }
+        self.kept = None;
         match File::create(self.rt, name) {
             Ok(_) => Ok(()),
             Err(_) => Err(self.fault()),
@@ -81,16 +130,11 @@ impl<'r, R: Files> Shelf for FolderShelf<'r, R> {
         if self.tally.is_over() {
             return Err(ShelfError::Fault);
         }
-        let opened = OpenOptions::new()
-            .append(true)
-            .create(true)
-            .open(self.rt, name);
-        let Ok(mut file) = opened else {
-            return Err(self.fault());
-        };
-        match file.write_all(bytes) {
-            Ok(()) => Ok(()),
-            Err(_) => Err(self.fault()),
+        self.kept = None;
+        if append_to(self.rt, name, bytes) {
+            Ok(())
+        } else {
+            Err(self.fault())
         }
     }
 }

@@ -2,17 +2,20 @@
 #![tactic(auto)]
 
 pub mod folder_shelf;
+pub mod lines;
 pub mod mem_shelf;
 pub mod mem_sink;
+mod open_file;
+mod read_ahead;
 pub mod shelf;
 pub mod sink;
 pub mod std_sink;
+mod streams;
 pub mod sure;
-#[cfg(test)]
-mod tests;
 pub mod whole;
 
 pub use folder_shelf::FolderShelf;
+pub use lines::{LONGEST_LINE, Line, LineError, Lines};
 pub use mem_shelf::MemShelf;
 pub use mem_sink::MemSink;
 pub use shelf::{Shelf, ShelfError};

@@ -1,7 +1,7 @@
 // A shelf in memory, that fails where it is told to.
 ghost use Rattle.std.specs.Prelude.{◌≡◌, ◌-◌, ℕ, List, IsTrue, true, false, min, length, take, drop, Some, None, IfOk, IsErrOf, OnOk, OnErr, option_map};
 ghost use Rattle.std.specs.Io.{ReadsAtMost};
-ghost use Rattle.fault_count.specs.Counts.{HasCause};
+ghost use Rattle.fault_count.specs.Counts.{HasCause, IsOver};
 ghost use Rattle.fault_count.specs.Plans.{NextCall};
 ghost use Rattle.seed_io.specs.Failing.{is_shelf_fault};
 ghost use Rattle.seed_io.specs.Memory.{files_told};
@@ -69,6 +69,7 @@ impl Shelf for MemShelf {
         ensures bytes { true ≡ true → IfOk result (Gives (shelf_map self.old) name.now at into.new) }
         ensures lacks { true ≡ true → IsErrOf result ShelfError.NotThere → shelf_map self.old name.now ≡ None }
         ensures listed { NextCall (shelf_plan self.old) (shelf_plan self.new) (is_shelf_fault result) }
+        ensures over { IsOver (shelf_plan self.old).faults → self.new ≡ self.old }
     {
         if self.plan.fails_next() {
             return Err(ShelfError::Fault);
@@ -82,6 +83,7 @@ impl Shelf for MemShelf {
         ensures tells { true ≡ true }
         ensures map { true ≡ true → Creates (shelf_map self.old) (shelf_map self.new) name.now result }
         ensures listed { NextCall (shelf_plan self.old) (shelf_plan self.new) (is_shelf_fault result) }
+        ensures over { IsOver (shelf_plan self.old).faults → self.new ≡ self.old }
         ensures none { IsErrOf result ShelfError.Fault → shelf_map self.new ≡ shelf_map self.old }
     {
         // A call that fails empties nothing.
@@ -97,6 +99,7 @@ impl Shelf for MemShelf {
         ensures tells { true ≡ true }
         ensures map { true ≡ true → Appends (shelf_map self.old) (shelf_map self.new) name.now bytes.now result }
         ensures listed { NextCall (shelf_plan self.old) (shelf_plan self.new) (is_shelf_fault result) }
+        ensures over { IsOver (shelf_plan self.old).faults → self.new ≡ self.old }
         ensures none { IsErrOf result ShelfError.Fault → shelf_map self.new ≡ shelf_map self.old }
     {
         // A call that fails adds nothing.

@@ -1,6 +1,6 @@
 // A sink in memory, that fails where it is told to.
 ghost use Rattle.std.specs.Prelude.{◌≡◌, [], true, IsErrOf};
-ghost use Rattle.fault_count.specs.Counts.{HasCause};
+ghost use Rattle.fault_count.specs.Counts.{HasCause, IsOver};
 ghost use Rattle.fault_count.specs.Plans.{NextCall};
 ghost use Rattle.seed_io.specs.Failing.{is_sink_fault};
 ghost use Rattle.seed_io.specs.Sink.{Pushes};
@@ -53,6 +53,7 @@ impl Sink for MemSink {
         ensures tells { true ≡ true }
         ensures taken { true ≡ true → Pushes (sink_taken self.old) (sink_taken self.new) bytes.now result }
         ensures listed { NextCall (sink_plan self.old) (sink_plan self.new) (is_sink_fault result) }
+        ensures over { IsOver (sink_plan self.old).faults → self.new ≡ self.old }
         ensures none { IsErrOf result SinkError.Fault → sink_taken self.new ≡ sink_taken self.old }
     {
         if self.plan.fails_next() {

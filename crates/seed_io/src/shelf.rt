@@ -1,7 +1,7 @@
 // A shelf of named byte strings.
 ghost use Rattle.std.specs.Prelude.{◌≡◌, Bool, ℕ, true, IsErrOf, IfOk, None};
 ghost use Rattle.std.specs.Io.{ReadsAtMost};
-ghost use Rattle.fault_count.specs.Counts.{HasCause};
+ghost use Rattle.fault_count.specs.Counts.{HasCause, IsOver};
 ghost use Rattle.seed_io.specs.Shelf.{Told, Gives, Creates, Appends};
 ghost use Rattle.seed_io.specs.declared.shelf.ShelfError.TheVariants.{Fault, NotThere};
 
@@ -16,7 +16,8 @@ pub enum ShelfError {
     Memory,
 }
 
-/// Byte strings by name. A shelf that tells means a map from names to bytes; whether it tells never changes.
+/// Byte strings by name. A shelf that tells means a map from names to bytes; whether it tells never changes. From the
+/// last count of faults on each call answers a fault and changes nothing.
 pub trait Shelf {
     /// Whether the shelf tells what it holds.
     ghost tells: { Self → Bool };
@@ -35,19 +36,22 @@ pub trait Shelf {
         ensures tells { tells self.new ≡ tells self.old }
         ensures same { map self.new ≡ map self.old }
         ensures bytes { tells self.old ≡ true → IfOk result (Gives (map self.old) name.now at into.new) }
-        ensures lacks { tells self.old ≡ true → IsErrOf result NotThere → map self.old name.now ≡ None };
+        ensures lacks { tells self.old ≡ true → IsErrOf result NotThere → map self.old name.now ≡ None }
+        ensures over { IsOver (faults self.old) → self.new ≡ self.old };
 
     /// Makes a name's bytes empty, or makes the name. After a fault the name is as before or empty.
     fn create(&mut self, name: &str) -> Result<(), ShelfError>
         ensures cause { HasCause Fault (faults self.old) (faults self.new) result }
         ensures there { ¬ IsErrOf result NotThere }
         ensures tells { tells self.new ≡ tells self.old }
-        ensures map { tells self.old ≡ true → Creates (map self.old) (map self.new) name.now result };
+        ensures map { tells self.old ≡ true → Creates (map self.old) (map self.new) name.now result }
+        ensures over { IsOver (faults self.old) → self.new ≡ self.old };
 
     /// Adds bytes at the end of a name's, or makes the name with these. After a fault a prefix of them was added.
     fn append(&mut self, name: &str, bytes: &[u8]) -> Result<(), ShelfError>
         ensures cause { HasCause Fault (faults self.old) (faults self.new) result }
         ensures there { ¬ IsErrOf result NotThere }
         ensures tells { tells self.new ≡ tells self.old }
-        ensures map { tells self.old ≡ true → Appends (map self.old) (map self.new) name.now bytes.now result };
+        ensures map { tells self.old ≡ true → Appends (map self.old) (map self.new) name.now bytes.now result }
+        ensures over { IsOver (faults self.old) → self.new ≡ self.old };
 }

@@ -1,6 +1,6 @@
 // What takes bytes.
 ghost use Rattle.std.specs.Prelude.{◌≡◌, Bool, ℕ, List, true};
-ghost use Rattle.fault_count.specs.Counts.{HasCause};
+ghost use Rattle.fault_count.specs.Counts.{HasCause, IsOver};
 ghost use Rattle.seed_io.specs.Sink.{Pushes};
 ghost use Rattle.seed_io.specs.declared.sink.SinkError.TheVariants.{Fault};
 
@@ -13,7 +13,8 @@ pub enum SinkError {
     Memory,
 }
 
-/// A taker of bytes. A sink that tells means the bytes taken so far; whether it tells never changes.
+/// A taker of bytes. A sink that tells means the bytes taken so far; whether it tells never changes. From the last count
+/// of faults on each call answers a fault and changes nothing.
 pub trait Sink {
     /// Whether the sink tells what it took.
     ghost tells: { Self → Bool };
@@ -28,5 +29,6 @@ pub trait Sink {
     fn push(&mut self, bytes: &[u8]) -> Result<(), SinkError>
         ensures cause { HasCause Fault (faults self.old) (faults self.new) result }
         ensures tells { tells self.new ≡ tells self.old }
-        ensures taken { tells self.old ≡ true → Pushes (taken self.old) (taken self.new) bytes.now result };
+        ensures taken { tells self.old ≡ true → Pushes (taken self.old) (taken self.new) bytes.now result }
+        ensures over { IsOver (faults self.old) → self.new ≡ self.old };
 }

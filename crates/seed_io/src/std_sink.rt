@@ -1,10 +1,10 @@
 // Standard output.
 ghost use Rattle.std.specs.Prelude.{◌≡◌, false, []};
 
+use crate::streams::write_front;
 use crate::{Sink, SinkError};
 use fault_count::FaultTally;
 use std::io;
-use std::io::Write;
 
 /// Standard output. It tells nothing: that what is written is printed is trusted. A write that takes nothing of a
 /// piece that is not empty is a fault.
@@ -28,22 +28,6 @@ impl<'r, R: Print> StdSink<'r, R> {
     }
 }
 
-/// Whether all of the bytes were written.
-fn write_whole<W: Write>(to: &mut W, bytes: &[u8]) -> bool {
-    let mut done = 0usize;
-    for _turn in 0..u64::MAX {
-        if done >= bytes.len() {
-            return true;
-        }
-        match to.write(&bytes[done..]) {
-            Ok(0) => return false,
-            Ok(count) => done += count,
-            Err(_) => return false,
-        }
-    }
-    false
-}
-
 impl<'r, R: Print> Sink for StdSink<'r, R> {
     ghost use Rattle.seed_io.specs.Held.{output_faults};
 
@@ -57,7 +41,7 @@ impl<'r, R: Print> Sink for StdSink<'r, R> {
         if self.tally.is_over() {
             return Err(SinkError::Fault);
         }
-        if write_whole(&mut io::writer(self.rt), bytes) {
+        if write_front(&mut io::writer(self.rt), bytes) == bytes.len() {
             return Ok(());
         }
         self.tally.raise();
