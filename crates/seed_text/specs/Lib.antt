@@ -1,1 +1,2 @@
 pub mod SetTexts
+pub mod SetWords

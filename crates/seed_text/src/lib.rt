@@ -4,11 +4,11 @@
 ghost use Rattle.seed_text.specs.SetTexts.{OneSpelling};
 
 pub mod read;
-#[cfg(test)]
-mod tests;
+pub mod set_word;
 pub mod write;
 
 pub use read::read_set;
+pub use set_word::{is_set_word, set_word_laws};
 pub use write::write_set;
 
 /// No two sets of as many files have one text.
