@@ -8,8 +8,8 @@ use Rattle.recipe_reader.specs.Appearance.{firsts, pair_named, Gathers, IsGather
 use Rattle.recipe_reader.specs.Limits.{KeepsSize}
 use Rattle.recipe_reader.specs.Reading.{Leads}
 use Rattle.recipe_reader.specs.Recipes.{NamedChunk, RecipeValue, empty_recipe, is_named, is_chunk, is_pair, with_new, with_file, with_pair, file_number, chunk_number}
-use Rattle.recipe_reader.specs.Rows.{Row, SpellsRow, with_row}
-use Rattle.recipe_reader.proofs.Firsts.{firsts-push, any_with_new, place_with_new, any_new, contains_with_new, filter_map-same}
+use Rattle.recipe_reader.specs.RecipeRows.{Row, SpellsRow, with_row}
+use Rattle.list_facts.proofs.FirstAppearance.{firsts-push, any_with_new, place_with_new, any_new, contains_with_new, filter_map-same}
 use Rattle.recipe_reader.proofs.Keeping.{named_equiv, chunk_equiv, pair_equiv}
 
 -- the chunk, if any, is known by name

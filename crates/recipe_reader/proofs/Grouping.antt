@@ -10,7 +10,8 @@ use Rattle.std.proofs.lemmas.List.Folds.{list_any-append}
 use Rattle.std.proofs.lemmas.Map.Keys.{IsDistinct-push, IsDistinct-head, IsDistinct-tail}
 use Rattle.recipe_reader.specs.Grouped.{IsGrouped, IsLast, latest_of}
 use Rattle.recipe_reader.specs.Recipes.{is_pair}
-use Rattle.recipe_reader.proofs.Keeping.{any_before, any_last, pair_equiv}
+use Rattle.list_facts.proofs.FirstAppearance.{any_before, any_last}
+use Rattle.recipe_reader.proofs.Keeping.{pair_equiv}
 
 pub no_groups : IsGrouped [] [] 0
 unfolding IsDistinct

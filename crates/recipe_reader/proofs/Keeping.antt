@@ -1,17 +1,18 @@
 -- A recipe stays one when a file, a pair or a chunk is put last.
-use Rattle.std.specs.Prelude.{Result, Ok, Err, OnOk, OnErr, ◌&&◌, ◌||◌, ◌⊎◌, ◌==◌, All, sum_by}
-use Rattle.std.proofs.Common.{◌≡◌, ◌≢◌, ◌∙◌, ◌∷◌, ◌++◌, ◌+◌, ◌<◌, ◌≤◌, [], ℕ, List, Bool, refl, true, false, length, inl, inr, arith}
+use Rattle.std.specs.Prelude.{Result, Ok, Err, OnOk, OnErr, ◌&&◌, ◌⊎◌, ◌==◌, All, sum_by}
+use Rattle.std.proofs.Common.{◌≡◌, ◌≢◌, ◌∷◌, ◌++◌, ◌+◌, ◌<◌, ◌≤◌, [], ℕ, List, Bool, refl, true, false, length, inl, inr, arith}
 use Rattle.std.specs.Cmp.{IsEquivalence, on_equiv, and_equiv, nat_eq_equiv}
 use Rattle.std.specs.Cmp.Lexicographic.{nat_list_eq_equiv}
 use Rattle.std.specs.List.{IsDistinct, list_any}
 use Rattle.std.proofs.lemmas.Bool.{cases_Bool, cases_lt, ne_eqb}
 use Rattle.std.proofs.lemmas.List.{length_push}
 use Rattle.std.proofs.lemmas.List.Elements.{All-push, All-nil, All-weaker}
-use Rattle.std.proofs.lemmas.List.Folds.{list_any-append, list_any_none}
+use Rattle.std.proofs.lemmas.List.Folds.{list_any_none}
 use Rattle.std.proofs.lemmas.List.Sums.{sum_by_push}
 use Rattle.std.proofs.lemmas.Map.Keys.{IsDistinct-push}
 use Rattle.file_names.specs.FileNames.{IsFileName}
 use Rattle.seed_model.specs.declared.limits.TheConstants.{MOST_FILES, MOST_CHUNKS, MOST_PAIRS, MOST_BYTES}
+use Rattle.list_facts.proofs.FirstAppearance.{any_before, any_last}
 use Rattle.recipe_reader.specs.Lawful.{IsChunk, IsPairBelow, IsRecipe}
 use Rattle.recipe_reader.specs.Recipes.{NamedChunk, RecipeValue, empty_recipe, bytes_of, is_named, is_chunk, is_pair, with_new, with_use}
 
@@ -43,17 +44,6 @@ new_pair file f chunks pairs h =
     and_false : (b : Bool) → (b && false) ≡ false
     and_false true = refl
     and_false false = refl
-
--- a pair that stands stays
-pub any_before : {X : Type 0} (p : X → Bool) (xs : List X) (x : X) → list_any p xs ≡ true → list_any p (xs ++ x ∷ []) ≡ true
-any_before p xs x h = list_any-append p xs (x ∷ []) ∙ rw h refl
-
-pub any_last : {X : Type 0} (p : X → Bool) (xs : List X) (x : X) → p x ≡ true → list_any p (xs ++ x ∷ []) ≡ true
-any_last p xs x h = list_any-append p xs (x ∷ []) ∙ rw h (or_true (list_any p xs))
-  where
-    or_true : (b : Bool) → (b || true) ≡ true
-    or_true true = refl
-    or_true false = refl
 
 pub empty_keeps : IsRecipe empty_recipe
 unfolding IsDistinct

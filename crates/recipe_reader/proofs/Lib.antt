@@ -1,11 +1,9 @@
-pub mod Entries
+pub mod Again
+pub mod ChunkLemmas
 pub mod Fields
-pub mod Firsts
 pub mod Gathering
 pub mod Grouping
-pub mod Groups
 pub mod Keeping
-pub mod Numbers
 pub mod OneFault
 pub mod OneMeaning
 pub mod OnePairMore

@@ -7,7 +7,7 @@ use Rattle.file_names.specs.FileNames.{IsFileName}
 use Rattle.recipe_reader.specs.Limits.{KeepsSize, PassesFirst}
 use Rattle.recipe_reader.specs.Reading.{HasChunkName, IsFault, IsFirstFault, Leads}
 use Rattle.recipe_reader.specs.Recipes.{NamedChunk, RecipeValue, empty_recipe, is_chunk}
-use Rattle.recipe_reader.specs.Rows.{Row, SpellsRow, with_row}
+use Rattle.recipe_reader.specs.RecipeRows.{Row, SpellsRow, with_row}
 use Rattle.recipe_reader.specs.declared.error.RecipeError.{RecipeError}
 use Rattle.recipe_reader.specs.declared.error.RecipeError.TheVariants.{BadRow, BadName, BadChunkName, BadSize, SizeClash, TooMany, Memory}
 use Rattle.recipe_reader.specs.declared.error.What.{What}

@@ -7,7 +7,7 @@ use Rattle.hex.proofs.HexLemmas.{decode_of-ok}
 use Rattle.recipe_reader.specs.Limits.{IsWithinLimits, KeepsSize, PassesFirst}
 use Rattle.recipe_reader.specs.Reading.{HasBadSize, HasChunkName, IsFault, IsFirstFault, Leads, TakesRow}
 use Rattle.recipe_reader.specs.Recipes.{NamedChunk, RecipeValue}
-use Rattle.recipe_reader.specs.Rows.{Row, SpellsRow, SpellsChunk, SpellsChunkName, with_row}
+use Rattle.recipe_reader.specs.RecipeRows.{Row, SpellsRow, SpellsChunk, SpellsChunkName, with_row}
 use Rattle.recipe_reader.specs.declared.error.RecipeError.{RecipeError}
 use Rattle.recipe_reader.specs.declared.error.RecipeError.TheVariants.{BadRow, BadName, BadChunkName, BadSize, SizeClash, TooMany, Memory}
 use Rattle.recipe_reader.specs.declared.error.What.{What}

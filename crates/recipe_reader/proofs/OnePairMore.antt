@@ -6,14 +6,14 @@ use Rattle.std.proofs.lemmas.Bool.{cases_Bool}
 use Rattle.std.proofs.lemmas.List.{length_push}
 use Rattle.seed_model.specs.declared.limits.TheConstants.{MOST_CHUNKS, MOST_PAIRS, MOST_BYTES}
 use Rattle.recipe_reader.specs.Lawful.{IsRecipe}
-use Rattle.recipe_reader.specs.Adding.{IsLimitFault, IsPairFault}
+use Rattle.recipe_reader.specs.AddFaults.{IsLimitFault, IsPairFault}
 use Rattle.recipe_reader.specs.Limits.{KeepsSize, PassesFirst, IsWithinLimits}
 use Rattle.recipe_reader.specs.Recipes.{NamedChunk, RecipeValue, bytes_of, is_chunk, is_pair, chunk_number, with_pair, with_use}
 use Rattle.recipe_reader.specs.declared.error.AddError.{AddError}
 use Rattle.recipe_reader.specs.declared.error.AddError.TheVariants.{Clash, TooMany, Memory}
 use Rattle.recipe_reader.specs.declared.error.What.TheVariants.{Pairs}
 use Rattle.recipe_reader.proofs.Keeping.{bytes_push, chunk_equiv, new_pair}
-use Rattle.recipe_reader.proofs.Numbers.{no_place}
+use Rattle.list_facts.proofs.Numbering.{no_place}
 
 -- the number of an item that is put last
 pub number_last : {X : Type 0} (p : X → Bool) (xs : List X) (x : X) → list_any p xs ≡ false → p x ≡ true → position_or_len p (xs ++ x ∷ []) ≡ length xs

@@ -12,8 +12,8 @@ use Rattle.recipe_reader.specs.Lawful.{IsRecipe}
 use Rattle.recipe_reader.specs.Limits.{IsWithinLimits, KeepsSize}
 use Rattle.recipe_reader.specs.Reading.{Leads, MayFollow}
 use Rattle.recipe_reader.specs.Recipes.{NamedChunk, RecipeValue, is_named, is_chunk, is_pair, with_new, with_file, with_pair, file_number, chunk_number}
-use Rattle.recipe_reader.specs.Rows.{Row, SpellsRow, with_row}
-use Rattle.recipe_reader.proofs.Firsts.{contains_with_new}
+use Rattle.recipe_reader.specs.RecipeRows.{Row, SpellsRow, with_row}
+use Rattle.list_facts.proofs.FirstAppearance.{contains_with_new}
 use Rattle.recipe_reader.proofs.Gathering.{SoFar, step}
 use Rattle.recipe_reader.proofs.Keeping.{named_equiv, chunk_equiv}
 use Rattle.recipe_reader.proofs.Sizes.{one_of_name}

@@ -5,13 +5,13 @@ use Rattle.std.specs.List.{list_any}
 use Rattle.std.proofs.lemmas.Bool.{cases_Bool}
 use Rattle.std.proofs.lemmas.List.{length_push}
 use Rattle.file_names.specs.FileNames.{IsFileName}
-use Rattle.recipe_reader.specs.Adding.{IsLimitFault, IsPairFault}
+use Rattle.recipe_reader.specs.AddFaults.{IsLimitFault, IsPairFault}
 use Rattle.recipe_reader.specs.Lawful.{IsRecipe}
 use Rattle.recipe_reader.specs.Limits.{KeepsSize, PassesFirst, IsWithinLimits}
 use Rattle.recipe_reader.specs.Parts.{NamesChunk, IsRowFault, chunk_of, fault_at, row_of}
 use Rattle.recipe_reader.specs.Reading.{IsFault, Leads, MayFollow, TakesRow}
 use Rattle.recipe_reader.specs.Recipes.{RecipeValue, is_named, file_number, with_file, with_pair}
-use Rattle.recipe_reader.specs.Rows.{Row, SpellsRow, SpellsSize, with_row}
+use Rattle.recipe_reader.specs.RecipeRows.{Row, SpellsRow, SpellsSize, with_row}
 use Rattle.recipe_reader.specs.declared.error.AddError.{AddError}
 use Rattle.recipe_reader.specs.declared.error.AddError.TheVariants as add
 use Rattle.recipe_reader.specs.declared.error.RecipeError.{RecipeError}
@@ -20,7 +20,7 @@ use Rattle.recipe_reader.specs.declared.error.What.{What}
 use Rattle.recipe_reader.specs.declared.error.What.TheVariants.{Files, Chunks, Bytes, Pairs}
 use Rattle.recipe_reader.proofs.Fields.{three_fields}
 use Rattle.recipe_reader.proofs.Keeping.{named_equiv}
-use Rattle.recipe_reader.proofs.Numbers.{place}
+use Rattle.list_facts.proofs.Numbering.{place}
 use Rattle.recipe_reader.proofs.OnePairMore.{number_last}
 
 -- a chunk with a name

@@ -16,13 +16,13 @@ use Rattle.recipe_reader.specs.Appearance.{firsts, pair_named}
 use Rattle.recipe_reader.specs.Lawful.{IsRecipe, IsPairBelow}
 use Rattle.recipe_reader.specs.Limits.{KeepsSize}
 use Rattle.recipe_reader.specs.Recipes.{NamedChunk, RecipeValue, with_new, is_named, is_chunk, is_pair, file_number, chunk_number}
-use Rattle.recipe_reader.specs.Rows.{Row}
+use Rattle.recipe_reader.specs.RecipeRows.{Row}
 use Rattle.recipe_reader.specs.Same.{IsSameRecipe, UsesByName}
 use Rattle.recipe_reader.specs.WrittenRows.{chunks_used, file_at}
-use Rattle.recipe_reader.proofs.Firsts.{firsts-push}
+use Rattle.list_facts.proofs.FirstAppearance.{any_last, firsts-push}
 use Rattle.recipe_reader.proofs.Gathering.{SoFar, Stands}
-use Rattle.recipe_reader.proofs.Keeping.{any_last, named_equiv, pair_equiv}
-use Rattle.recipe_reader.proofs.Numbers.{place}
+use Rattle.recipe_reader.proofs.Keeping.{named_equiv, pair_equiv}
+use Rattle.list_facts.proofs.Numbering.{place}
 use Rattle.recipe_reader.proofs.Replaying.{IsPart}
 use Rattle.recipe_reader.proofs.Sizes.{contains_at}
 use Rattle.recipe_reader.proofs.Subsets.{cons_cases, contains_head, contains_tail}

@@ -10,7 +10,7 @@ use Rattle.hex.specs.Hex.{IsBytes}
 use Rattle.hex.proofs.HexLemmas.{decode_of-encode_lower}
 use Rattle.recipe_reader.specs.Lawful.{IsRecipe, IsChunk}
 use Rattle.recipe_reader.specs.Recipes.{NamedChunk, RecipeValue, empty_recipe, name_at, size_at}
-use Rattle.recipe_reader.specs.Rows.{Row, SpellsRow}
+use Rattle.recipe_reader.specs.RecipeRows.{Row, SpellsRow}
 use Rattle.recipe_reader.specs.WrittenRows.{chunks_used, file_at, file_rows, pair_row, rows_of_recipe}
 use Rattle.recipe_reader.proofs.Gathering.{nothing_so_far}
 use Rattle.recipe_reader.proofs.Keeping.{empty_keeps}

@@ -1,13 +1,16 @@
 -- The text of a recipe, row by row.
 use Rattle.std.specs.Prelude.{◌==◌, All, map}
-use Rattle.std.proofs.Common.{◌≡◌, ◌≢◌, ◌∙◌, ◌∷◌, ◌++◌, ◌+◌, ◌<◌, [], ℕ, List, refl, sym, ap, length, arith, inl, inr}
+use Rattle.std.proofs.Common.{◌≡◌, ◌≢◌, ◌∙◌, ◌∷◌, ◌++◌, ◌+◌, ◌<◌, [], ℕ, List, Option, Some, None, refl, sym, ap, true, false, length, append_assoc, arith, inl, inr}
+use Rattle.std.specs.Cmp.{nat_eq_equiv}
 use Rattle.std.specs.List.{flat_map, range_with_len}
+use Rattle.list_facts.specs.Keyed.{values_of}
 use Rattle.std.proofs.lemmas.Bool.{cases_Bool}
 use Rattle.std.proofs.lemmas.Grind.{flat_map-append}
 use Rattle.std.proofs.lemmas.List.{append-nil, map-id}
 use Rattle.std.proofs.lemmas.List.Elements.{All-nil, All-cons, All-head, All-tail}
 use Rattle.std.proofs.lemmas.List.FromFn.{map-range_with_len_more}
 use Rattle.csv_rows.specs.Rows.{rows_text}
+use Rattle.csv_rows.specs.Written.{with_more}
 use Rattle.csv_rows.proofs.Written.{rows_text-append}
 use Rattle.recipe_reader.specs.Lawful.{IsPairBelow}
 use Rattle.recipe_reader.specs.Recipes.{RecipeValue}
@@ -44,3 +47,24 @@ chunks_below files chunks file (p ∷ pairs) h =
       | inl t ↦ rw t (All-cons (λ chunk. chunk < chunks) p.1 (chunks_used pairs file) head.chunk rest)
       | inr f ↦ rw f rest
     ]
+
+-- no text more, and two texts more
+pub more_nothing : (o : Option (List ℕ)) → with_more o (rows_text []) ≡ o
+more_nothing None = refl
+more_nothing (Some text) = ap Some (ap (λ (t : List ℕ). text ++ t) nothing ∙ append-nil text)
+
+pub more_twice : (o : Option (List ℕ)) (a b : List ℕ) → with_more (with_more o a) b ≡ with_more o (a ++ b)
+more_twice None a b = refl
+more_twice (Some text) a b = ap Some (append_assoc text a b)
+
+-- the values that are paired with a file are the chunks that it uses
+pub values-used : (pairs : List (ℕ × ℕ)) (file : ℕ) → values_of file pairs ≡ chunks_used pairs file
+values-used [] file = refl
+values-used (p ∷ pairs) file = elim (cases_Bool (p.0 == file)) [
+  | inl t ↦
+      let flipped : (file == p.0) ≡ true = nat_eq_equiv.symm file p.0 ∙ t in
+      rw (flipped, t) (ap (λ (rest : List ℕ). p.1 ∷ rest) (values-used pairs file))
+  | inr f ↦
+      let flipped : (file == p.0) ≡ false = nat_eq_equiv.symm file p.0 ∙ f in
+      rw (flipped, f) (values-used pairs file)
+]

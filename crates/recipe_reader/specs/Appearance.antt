@@ -1,15 +1,11 @@
 -- A recipe by all its rows at once: what appears first keeps its place.
-use Rattle.std.specs.Prelude.{◌≡◌, ℕ, List, [], ◌∷◌, Bool, not, map, filter, All, Option}
+use Rattle.std.specs.Prelude.{◌≡◌, ℕ, List, map, All, Option}
 use Rattle.std.specs.List.{AllZip, filter_map}
 use Rattle.std.specs.Option.{option_map}
+pub use Rattle.list_facts.specs.Firsts.{firsts}
 use Rattle.recipe_reader.specs.Limits.{KeepsSize}
 use Rattle.recipe_reader.specs.Recipes.{NamedChunk, RecipeValue, is_named, is_chunk, is_pair, file_number, chunk_number}
-use Rattle.recipe_reader.specs.Rows.{Row, SpellsRow}
-
--- each item that no earlier one is the same as
-abbrev pub firsts : {X : Type 0} → (X → X → Bool) → List X → List X
-firsts same [] = []
-firsts same (x ∷ xs) = x ∷ filter (λ y. not (same x y)) (firsts same xs)
+use Rattle.recipe_reader.specs.RecipeRows.{Row, SpellsRow}
 
 -- the numbers of the file and the chunk that a row names
 abbrev pub pair_named : RecipeValue → Row → Option (ℕ × ℕ)

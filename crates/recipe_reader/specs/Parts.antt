@@ -2,7 +2,7 @@
 use Rattle.std.specs.Prelude.{◌≡◌, ◌≢◌, ◌⊎◌, ℕ, List, [], ◌∷◌, Contains, Option, Some, None}
 use Rattle.recipe_reader.specs.Limits.{KeepsSize, PassesFirst}
 use Rattle.recipe_reader.specs.Recipes.{NamedChunk, RecipeValue}
-use Rattle.recipe_reader.specs.Rows.{Row, SpellsChunkName, with_row}
+use Rattle.recipe_reader.specs.RecipeRows.{Row, SpellsChunkName, with_row}
 use Rattle.recipe_reader.specs.declared.error.AddError.{AddError}
 use Rattle.recipe_reader.specs.declared.error.AddError.TheVariants as add
 use Rattle.recipe_reader.specs.declared.error.RecipeError.{RecipeError}

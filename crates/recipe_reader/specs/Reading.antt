@@ -3,7 +3,7 @@ use Rattle.std.specs.Prelude.{◌≡◌, ◌≢◌, ◌⊎◌, ℕ, ◌+◌, Lis
 use Rattle.file_names.specs.FileNames.{IsFileName}
 use Rattle.recipe_reader.specs.Limits.{IsWithinLimits, PassesFirst, KeepsSize}
 use Rattle.recipe_reader.specs.Recipes.{NamedChunk, RecipeValue}
-use Rattle.recipe_reader.specs.Rows.{Row, SpellsRow, SpellsChunkName, SpellsSize, with_row}
+use Rattle.recipe_reader.specs.RecipeRows.{Row, SpellsRow, SpellsChunkName, SpellsSize, with_row}
 use Rattle.recipe_reader.specs.declared.error.RecipeError.{RecipeError}
 use Rattle.recipe_reader.specs.declared.error.RecipeError.TheVariants.{BadRow, BadName, BadChunkName, BadSize, SizeClash, TooMany, Memory}
 

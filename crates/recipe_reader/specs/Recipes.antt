@@ -1,8 +1,9 @@
 -- Recipes: files and chunks by number, and who uses what.
-use Rattle.std.specs.Prelude.{ℕ, ◌==◌, ◌&&◌, List, [], ◌∷◌, ◌++◌, Bool, length, sum_by, nat_eq, map, filter, slice_index_or, refl, if◌then◌else◌}
+use Rattle.std.specs.Prelude.{ℕ, ◌==◌, ◌&&◌, List, [], Bool, length, sum_by, nat_eq, map, filter, slice_index_or, refl}
 use Rattle.std.specs.List.{list_any, position_or_len, range_with_len}
 use Rattle.std.specs.Cmp.Lexicographic.{pointwise}
 use Rattle.std.specs.Coded.{Coded, code_by, coded×, coded_ℕ, coded_list}
+pub use Rattle.list_facts.specs.Firsts.{with_new}
 use Rattle.seed_model.specs.declared.table.Class.{Class}
 use Rattle.seed_model.specs.Tables.{TableValue}
 
@@ -29,10 +30,6 @@ recipe_code =
 
 abbrev pub empty_recipe : RecipeValue
 empty_recipe = record { files = []; chunks = []; pairs = [] }
-
--- an item behind those so far, unless one of them passes the test
-abbrev pub with_new : {X : Type 0} → (X → Bool) → List X → X → List X
-with_new is_it items item = if list_any is_it items then items else items ++ item ∷ []
 
 -- whether a file has this name, a chunk has this name, a pair is this one
 abbrev pub is_named : List ℕ → List ℕ → Bool

@@ -2,7 +2,6 @@
 use Rattle.std.specs.Prelude.{◌≡◌, ◌↔◌, ℕ, List, Contains, Some, slice_get, map}
 use Rattle.recipe_reader.specs.Reading.{Leads}
 use Rattle.recipe_reader.specs.Recipes.{NamedChunk, RecipeValue, empty_recipe}
-use Rattle.recipe_reader.specs.WrittenRows.{rows_of_recipe}
 
 -- a file uses a chunk, both by name
 pub record UsesByName (recipe : RecipeValue) (file chunk : List ℕ) : Type 0 where
@@ -17,8 +16,8 @@ pub record IsSameRecipe (a b : RecipeValue) : Type 0 where
   pub chunks : (chunk : NamedChunk) → Contains a.chunks chunk ↔ Contains b.chunks chunk
   pub pairs : (file chunk : List ℕ) → UsesByName a file chunk ↔ UsesByName b file chunk
 
--- the rows of the recipe lead to an equal one
-pub record ReadsBack (recipe : RecipeValue) : Type 0 where
+-- these rows lead to an equal recipe
+pub record ReadsBack (rows : List (List (List ℕ))) (recipe : RecipeValue) : Type 0 where
   pub back : RecipeValue
-  pub leads : Leads empty_recipe (rows_of_recipe recipe) back
+  pub leads : Leads empty_recipe rows back
   pub same : IsSameRecipe recipe back

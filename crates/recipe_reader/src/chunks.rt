@@ -2,11 +2,13 @@
 ghost use Rattle.std.specs.Prelude.{◌≡◌, ◌<◌, ◌≤◌, ◌∷◌, ◌++◌, [], List, ℕ, length, false, Some, slice_get, option_map, IfSome, OnOk, OnErr};
 ghost use Rattle.std.specs.List.{list_any};
 ghost use Rattle.recipe_reader.specs.Recipes.{NamedChunk, is_chunk};
-ghost use Rattle.recipe_reader.specs.Numbers.{IsNumberOf};
+ghost use Rattle.list_facts.specs.Firsts.{IsNumberOf};
 
-use crate::error::LONGEST_CHUNK_NAME;
+use crate::chunk::Chunk;
+use crate::error::{GREATEST_SIZE, LONGEST_CHUNK_NAME};
+use crate::text_key::StrongKey;
 use arrayvec::ArrayVec;
-use indexmap::IndexMap;
+use indexmap::IndexSet;
 use seed_model::NoMemory;
 use std::alloc::Global;
 use std::marker::Model;
@@ -14,34 +16,33 @@ use std::marker::Model;
 /// The bytes of a chunk's name, at most 64; none where a row names no chunk.
 pub(crate) type ChunkName = ArrayVec<u8, LONGEST_CHUNK_NAME>;
 
-/// Chunks, numbered from 0 by first appearance. The names lie in the map itself, so that a look-up follows no pointer.
+/// Chunks, numbered from 0 by first appearance.
 #[derive(Drop)]
 pub(crate) struct ChunkList {
-    sizes: IndexMap<ChunkName, u64>,
+    chunks: IndexSet<Chunk, StrongKey>,
 }
 
 impl Model for ChunkList {
     ghost use Rattle.std.specs.Prelude.{List};
     ghost use Rattle.std.specs.Coded.{coded_list};
     ghost use Rattle.recipe_reader.specs.Recipes.{NamedChunk, chunk_code};
-    ghost use Rattle.recipe_reader.specs.ListViews.{chunks_in};
 
     ghost Value = { List NamedChunk };
 
     ghost coded = { coded_list chunk_code };
 
-    ghost view = { λ a. chunks_in a.sizes.entries };
+    ghost view = { λ a. a.chunks.keys };
 }
 
 impl ChunkList {
     /// No chunks, with room ahead for so many where there is memory for that.
-    pub(crate) fn with_room(alloc: Global, count: usize) -> Self
+    pub(crate) fn with_room(alloc: Global, key: StrongKey, count: usize) -> Self
         ensures { result ≡ [] }
     {
-        match IndexMap::with_capacity(alloc, count) {
-            Ok(sizes) => ChunkList { sizes },
+        match IndexSet::with_capacity_and_hasher(alloc, count, key) {
+            Ok(chunks) => ChunkList { chunks },
             Err(_) => ChunkList {
-                sizes: IndexMap::new(alloc),
+                chunks: IndexSet::with_hasher(alloc, key),
             },
         }
     }
@@ -50,7 +51,7 @@ impl ChunkList {
     pub(crate) fn len(&self) -> usize
         ensures { result ≡ length self.now }
     {
-        self.sizes.len()
+        self.chunks.len()
     }
 
     /// The number and the size of the chunk with a name.
@@ -58,21 +59,20 @@ impl ChunkList {
         ensures number { IsNumberOf (is_chunk name.now.items) self.now (option_map (λ p. p.0) result) }
         ensures size { IfSome result (λ p. slice_get self.now p.0 ≡ Some (record { name = name.now.items; size = p.1 })) }
     {
-        match self.sizes.get_full(name) {
-            Some((number, _, size)) => Some((number, *size)),
+        match self.chunks.get_full(&Chunk::new(name.as_slice(), 0)) {
+            Some((number, chunk)) => Some((number, chunk.size())),
             None => None,
         }
     }
 
     /// Puts a new chunk last.
-    pub(crate) fn push(&mut self, name: ChunkName, size: u64) -> Result<(), NoMemory>
-        requires { list_any (is_chunk name.items) self.old ≡ false }
-        ensures ok { OnOk result (self.new ≡ self.old ++ record { name = name.items; size = size } ∷ []) }
+    pub(crate) fn push(&mut self, name: &ChunkName, size: u64) -> Result<(), NoMemory>
+        requires small { size ≤ GREATEST_SIZE }
+        requires new { list_any (is_chunk name.now.items) self.old ≡ false }
+        ensures ok { OnOk result (self.new ≡ self.old ++ record { name = name.now.items; size = size } ∷ []) }
         ensures err { OnErr result (self.new ≡ self.old) }
     {
-        let Ok(_) = self.sizes.insert(name, size) else {
-            return Err(NoMemory);
-        };
+        self.chunks.insert(Chunk::new(name.as_slice(), size))?;
         Ok(())
     }
 
@@ -80,7 +80,7 @@ impl ChunkList {
     pub(crate) fn forget_last(&mut self)
         ensures { (front : List NamedChunk) (chunk : NamedChunk) → self.old ≡ front ++ chunk ∷ [] → self.new ≡ front }
     {
-        let _ = self.sizes.pop();
+        let _ = self.chunks.pop();
     }
 
     /// The name and the size of the chunk with a number.
@@ -88,8 +88,8 @@ impl ChunkList {
         requires { number < length self.now }
         ensures { slice_get self.now number ≡ Some (record { name = result.0.now; size = result.1 }) }
     {
-        let (name, size) = self.sizes.get_index(number).unwrap();
-        (name.as_slice(), *size)
+        let chunk = &self.chunks.as_slice()[number];
+        (chunk.name(), chunk.size())
     }
 }
 

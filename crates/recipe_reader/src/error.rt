@@ -1,4 +1,7 @@
-// Why a text is no recipe.
+// Why a text is no recipe, and how large a recipe may be.
+ghost use Rattle.std.specs.Prelude.{◌≡◌};
+
+use seed_model::limits::{MOST_BYTES, MOST_CHUNKS, MOST_FILES, MOST_PAIRS};
 
 /// The longest name of a chunk in a recipe, in bytes.
 pub const LONGEST_CHUNK_NAME: usize = 64;
@@ -44,3 +47,13 @@ pub enum AddError {
     /// Memory ran out.
     Memory,
 }
+
+/// The limits of a recipe, in numbers.
+pub fn limit_laws()
+    ensures files { MOST_FILES ≡ 16383 }
+    ensures chunks { MOST_CHUNKS ≡ 1048575 }
+    ensures pairs { MOST_PAIRS ≡ 4194303 }
+    ensures bytes { MOST_BYTES ≡ 1125899906842623 }
+    ensures chunk_name { LONGEST_CHUNK_NAME ≡ 64 }
+    ensures size { GREATEST_SIZE ≡ 4294967295 }
+{}

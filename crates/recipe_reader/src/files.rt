@@ -2,8 +2,9 @@
 ghost use Rattle.std.specs.Prelude.{◌≡◌, ◌<◌, ◌∷◌, ◌++◌, [], List, ℕ, length, false, slice_index_or, OnOk, OnErr};
 ghost use Rattle.std.specs.List.{list_any};
 ghost use Rattle.recipe_reader.specs.Recipes.{is_named};
-ghost use Rattle.recipe_reader.specs.Numbers.{IsNumberOf};
+ghost use Rattle.list_facts.specs.Firsts.{IsNumberOf};
 
+use crate::text_key::FastKey;
 use indexmap::IndexSet;
 use seed_model::NoMemory;
 use std::alloc::Global;
@@ -12,25 +13,25 @@ use std::marker::Model;
 /// Names, numbered from 0 by first appearance.
 #[derive(Drop)]
 pub(crate) struct FileList {
-    names: IndexSet<String>,
+    names: IndexSet<String, FastKey>,
 }
 
 impl Model for FileList {
     ghost use Rattle.std.specs.Prelude.{List, ℕ};
-    ghost use Rattle.recipe_reader.specs.ListViews.{names_in};
+    ghost use Rattle.list_facts.specs.Listed.{texts_in};
 
     ghost Value = { List (List ℕ) };
 
-    ghost view = { λ a. names_in a.names.keys };
+    ghost view = { λ a. texts_in a.names.keys };
 }
 
 impl FileList {
     /// No names.
-    pub(crate) fn new(alloc: Global) -> Self
+    pub(crate) fn new(alloc: Global, key: FastKey) -> Self
         ensures { result ≡ [] }
     {
         FileList {
-            names: IndexSet::new(alloc),
+            names: IndexSet::with_hasher(alloc, key),
         }
     }
 

@@ -4,10 +4,14 @@ ghost use Rattle.std.specs.List.{list_any};
 ghost use Rattle.recipe_reader.specs.Grouped.{IsLast, latest_of};
 ghost use Rattle.recipe_reader.specs.Recipes.{is_pair};
 
+use crate::text_key::FastKey;
 use indexmap::IndexSet;
 use seed_model::NoMemory;
 use std::alloc::Global;
 use std::marker::Model;
+
+/// Pairs by first appearance, looked up by hashing.
+pub(crate) type PairSet = IndexSet<(u32, u32), FastKey>;
 
 /// Distinct pairs of a file and a chunk, none with a file before the one of the pair before it; and the latest file of
 /// each chunk.
@@ -80,11 +84,12 @@ impl GroupedPairs {
         Ok(())
     }
 
-    /// The same pairs as a set.
-    pub(crate) fn to_set(&self, alloc: Global) -> Result<IndexSet<(u32, u32)>, NoMemory>
+    /// The same pairs as a set, with as much room as they have.
+    pub(crate) fn to_set(&self, key: FastKey) -> Result<PairSet, NoMemory>
         ensures { IfOk result (λ set. set.keys ≡ self.now) }
     {
-        let mut set = IndexSet::with_capacity(alloc, self.pairs.len())?;
+        let alloc = *self.pairs.allocator();
+        let mut set = IndexSet::with_capacity_and_hasher(alloc, self.pairs.capacity(), key)?;
         for pair in &self.pairs {
             put_last(&mut set, pair.0, pair.1)?;
         }
@@ -126,9 +131,10 @@ fn make_place(latest: &mut Vec<Option<u32>>, chunk: u32) -> Result<(), NoMemory>
 }
 
 /// Puts a new pair last.
-fn put_last(set: &mut IndexSet<(u32, u32)>, file: u32, chunk: u32) -> Result<(), NoMemory>
+pub(crate) fn put_last(set: &mut PairSet, file: u32, chunk: u32) -> Result<(), NoMemory>
     requires { list_any (is_pair file chunk) set.old.keys ≡ false }
-    ensures { OnOk result (set.new.keys ≡ set.old.keys ++ (file, chunk) ∷ []) }
+    ensures ok { OnOk result (set.new.keys ≡ set.old.keys ++ (file, chunk) ∷ []) }
+    ensures err { OnErr result (set.new.keys ≡ set.old.keys) }
 {
     set.insert((file, chunk))?;
     Ok(())

@@ -1,7 +1,7 @@
 //! Recipes: which file uses which chunks, and their sizes; read from rows of text and written as them.
 #![tactic(auto)]
 
-mod by_file;
+mod chunk;
 mod chunks;
 pub mod error;
 mod files;
@@ -10,12 +10,10 @@ mod pairs;
 pub mod reading;
 pub mod recipe;
 mod row;
+mod text_key;
 pub mod writing;
 
-pub use error::{AddError, RecipeError, What};
+pub use error::{AddError, RecipeError, What, limit_laws};
 pub use reading::{read_recipe, recipe_laws};
 pub use recipe::Recipe;
 pub use writing::{write_recipe, written_laws};
-
-#[cfg(test)]
-mod tests;

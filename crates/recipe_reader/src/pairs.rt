@@ -3,7 +3,8 @@ ghost use Rattle.std.specs.Prelude.{◌≡◌, ◌<◌, ◌≤◌, ◌∷◌, �
 ghost use Rattle.std.specs.List.{list_any};
 ghost use Rattle.recipe_reader.specs.Recipes.{is_pair, with_new};
 
-use crate::grouped::{GroupedPairs, stands_in};
+use crate::grouped::{GroupedPairs, PairSet, put_last, stands_in};
+use crate::text_key::FastKey;
 use indexmap::IndexSet;
 use seed_model::NoMemory;
 use seed_model::limits::MOST_PAIRS;
@@ -24,7 +25,7 @@ pub(crate) enum PairError {
 #[derive(Drop)]
 pub(crate) struct PairList {
     grouped: GroupedPairs,
-    mixed: IndexSet<(u32, u32)>,
+    mixed: PairSet,
     is_mixed: bool,
 }
 
@@ -38,12 +39,12 @@ impl Model for PairList {
 
 impl PairList {
     /// No pairs, with room ahead for so many where there is memory for that.
-    pub(crate) fn with_room(alloc: Global, count: usize) -> Self
+    pub(crate) fn with_room(alloc: Global, key: FastKey, count: usize) -> Self
         ensures { result ≡ [] }
     {
         PairList {
             grouped: GroupedPairs::with_room(alloc, count),
-            mixed: IndexSet::new(alloc),
+            mixed: IndexSet::with_hasher(alloc, key),
             is_mixed: false,
         }
     }
@@ -87,7 +88,7 @@ impl PairList {
         ensures full { IfErr result (λ e. e ≡ PairError.Full → MOST_PAIRS ≤ length self.old) }
         ensures memory { IfErr result (λ e. e ≡ PairError.Memory → length self.old < MOST_PAIRS) }
     {
-        self.mix_before(file);
+        self.make_searchable(file);
         if self.contains(file, chunk) {
             return Ok(());
         }
@@ -100,35 +101,43 @@ impl PairList {
         }
     }
 
-    /// Puts a new pair last.
+    /// Puts a new pair last. Before one of an earlier file, pairs that are grouped are made a set.
     pub(crate) fn push(&mut self, file: u32, chunk: u32) -> Result<(), NoMemory>
         requires { list_any (is_pair file chunk) self.old ≡ false }
         ensures ok { OnOk result (self.new ≡ self.old ++ (file, chunk) ∷ []) }
         ensures err { OnErr result (self.new ≡ self.old) }
     {
-        self.mix_before(file);
         if self.is_mixed {
-            self.mixed.insert((file, chunk))?;
-            return Ok(());
+            return put_last(&mut self.mixed, file, chunk);
         }
         if self.grouped.is_last(file) {
             return self.grouped.push(file, chunk);
         }
-        Err(NoMemory)
+        let mut set = self.grouped.to_set(*self.mixed.hasher())?;
+        put_last(&mut set, file, chunk)?;
+        self.become_set(set);
+        Ok(())
     }
 
-    /// Makes a set of pairs that are grouped, before one of an earlier file; where there is no memory, they stay.
-    fn mix_before(&mut self, file: u32)
+    /// Before a pair of an earlier file is looked for among pairs that are grouped, makes them a set, so that it is not
+    /// sought among all of them. Where there is no memory for that, they stay.
+    fn make_searchable(&mut self, file: u32)
         ensures { self.new ≡ self.old }
     {
         if self.is_mixed || self.grouped.is_last(file) {
             return;
         }
-        let alloc = *self.mixed.allocator();
-        if let Ok(set) = self.grouped.to_set(alloc) {
-            self.mixed = set;
-            self.is_mixed = true;
-            self.grouped = GroupedPairs::with_room(alloc, 0);
+        if let Ok(set) = self.grouped.to_set(*self.mixed.hasher()) {
+            self.become_set(set);
         }
+    }
+
+    /// Becomes the pairs of a set.
+    fn become_set(&mut self, set: PairSet)
+        ensures { self.new ≡ set.keys }
+    {
+        self.grouped = GroupedPairs::with_room(*set.allocator(), 0);
+        self.mixed = set;
+        self.is_mixed = true;
     }
 }

@@ -8,7 +8,7 @@ ghost use Rattle.recipe_reader.specs.Lawful.{IsChunkName};
 ghost use Rattle.recipe_reader.specs.Parts.{IsRowFault, fault_at, row_of};
 ghost use Rattle.recipe_reader.specs.Reading.{IsFault, IsFirstFault, Leads, MayFollow, TakesRow};
 ghost use Rattle.recipe_reader.specs.Recipes.{RecipeValue, empty_recipe};
-ghost use Rattle.recipe_reader.specs.Rows.{with_row};
+ghost use Rattle.recipe_reader.specs.RecipeRows.{with_row};
 
 use crate::chunks::ChunkName;
 use crate::error::{AddError, GREATEST_SIZE, RecipeError};
@@ -20,14 +20,15 @@ use file_names::file_name_of;
 use std::alloc::Global;
 
 /// The recipe that the rows of a text lead to; or the first fault of the first row at fault. Each row is a file name, a
-/// chunk name in hex and a size in bytes.
+/// chunk name in hex and a size in bytes. Files, chunks and pairs are those that the rows name, by first appearance.
 pub fn read_recipe(alloc: Global, text: &[u8]) -> Result<Recipe, RecipeError>
     ensures recipe { IfOk result (λ r. Leads empty_recipe (rows_of text.now) r) }
+    ensures gathered { IfOk result (λ r. IsGathered (rows_of text.now) r) }
     ensures fault { IfErr result (λ e. e ≢ RecipeError.Memory → IsFirstFault empty_recipe (rows_of text.now) e) }
 {
     let mut rows = RowReader::new(alloc, text);
     let mut row = ByteRecord::new(alloc);
-    let mut recipe = Recipe::with_room(alloc, text.len());
+    let mut recipe = Recipe::for_text(alloc, text);
     for before in 0..u64::MAX {
         let Ok(found) = rows.next_row(&mut row) else {
             return Err(RecipeError::Memory);
@@ -37,7 +38,8 @@ pub fn read_recipe(alloc: Global, text: &[u8]) -> Result<Recipe, RecipeError>
         }
         take_row(&mut recipe, before + 1, &row)?;
     }
-    Err(RecipeError::Memory)
+    // No text has so many rows.
+    unreachable!()
 }
 
 // Takes the row with this number.

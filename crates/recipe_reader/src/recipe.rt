@@ -2,7 +2,7 @@
 ghost use Rattle.std.specs.Prelude.{◌≡◌, ◌≢◌, ◌<◌, ◌≤◌, [], ℕ, length, true, false, Some, slice_index_or, IsOk, IfOk, IfErr, IfSome, IfNone, OnSome, Contains, OnOk, OnErr};
 ghost use Rattle.std.specs.List.{list_any};
 ghost use Rattle.file_names.specs.FileNames.{IsFileName};
-ghost use Rattle.recipe_reader.specs.Adding.{IsLimitFault, IsPairFault};
+ghost use Rattle.recipe_reader.specs.AddFaults.{IsLimitFault, IsPairFault};
 ghost use Rattle.recipe_reader.specs.Lawful.{IsChunkName, IsRecipe};
 ghost use Rattle.recipe_reader.specs.Limits.{KeepsSize};
 ghost use Rattle.recipe_reader.specs.Recipes.{empty_recipe, bytes_of, name_at, size_at, is_named, is_chunk, is_pair, file_number, chunk_number, with_file, with_use, with_pair};
@@ -11,6 +11,7 @@ use crate::chunks::{ChunkList, ChunkName, name_of};
 use crate::error::{AddError, GREATEST_SIZE, LONGEST_CHUNK_NAME, What};
 use crate::files::FileList;
 use crate::pairs::{PairError, PairList};
+use crate::text_key::{FastKey, StrongKey, digest_of};
 use seed_model::limits::{MOST_BYTES, MOST_CHUNKS, MOST_FILES, MOST_PAIRS};
 use std::alloc::Global;
 use std::marker::Model;
@@ -49,19 +50,22 @@ impl Recipe {
     pub fn new(alloc: Global) -> Self
         ensures { result ≡ empty_recipe }
     {
-        Recipe::with_room(alloc, 0)
+        Recipe::for_text(alloc, b"")
     }
 
-    /// A recipe without files, with room ahead for what a text of so many bytes may say, where there is memory for that.
-    pub(crate) fn with_room(alloc: Global, bytes: usize) -> Self
+    /// A recipe without files, with room ahead for what a text may say, where there is memory for that, and with tables
+    /// under keys that are drawn from the text.
+    pub(crate) fn for_text(alloc: Global, text: &[u8]) -> Self
         ensures { result ≡ empty_recipe }
     {
-        let chunks = (bytes / BYTES_A_CHUNK).min(MOST_CHUNKS as usize);
-        let pairs = (bytes / BYTES_A_PAIR).min(MOST_PAIRS as usize);
+        let digest = digest_of(text);
+        let key = FastKey::new(digest);
+        let chunks = (text.len() / BYTES_A_CHUNK).min(MOST_CHUNKS as usize);
+        let pairs = (text.len() / BYTES_A_PAIR).min(MOST_PAIRS as usize);
         Recipe {
-            files: FileList::new(alloc),
-            chunks: ChunkList::with_room(alloc, chunks),
-            pairs: PairList::with_room(alloc, pairs),
+            files: FileList::new(alloc, key),
+            chunks: ChunkList::with_room(alloc, StrongKey::new(digest), chunks),
+            pairs: PairList::with_room(alloc, key, pairs),
             total: 0,
         }
     }
@@ -247,7 +251,7 @@ impl Recipe {
         if self.pairs.len() >= MOST_PAIRS as usize {
             return Err(AddError::TooMany(What::Pairs));
         }
-        let Ok(()) = self.chunks.push(name, size) else {
+        let Ok(()) = self.chunks.push(&name, size) else {
             return Err(AddError::Memory);
         };
         let Ok(()) = self.pairs.push(file, number) else {

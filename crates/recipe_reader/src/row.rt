@@ -3,7 +3,7 @@ ghost use Rattle.std.specs.Prelude.{◌≡◌, ◌<◌, [], ℕ, length, slice_i
 ghost use Rattle.csv.specs.Records.{fields_of};
 ghost use Rattle.recipe_reader.specs.Parts.{NamesChunk};
 ghost use Rattle.recipe_reader.specs.Reading.{HasChunkName, HasBadSize};
-ghost use Rattle.recipe_reader.specs.Rows.{SpellsSize};
+ghost use Rattle.recipe_reader.specs.RecipeRows.{SpellsSize};
 
 use crate::chunks::ChunkName;
 use crate::error::{GREATEST_SIZE, LONGEST_CHUNK_NAME};

@@ -1,6 +1,6 @@
 use Rattle.std.proofs.Common.{◌≢◌, ◌<◌, ◌∙◌, ap, sym, subst, refl, ℕ, Some, length, arith}
 use Rattle.std.proofs.lemmas.Bool.{eqb-false}
-use Rattle.recipe_reader.specs.Adding.{IsPairFault}
+use Rattle.recipe_reader.specs.AddFaults.{IsPairFault}
 use Rattle.recipe_reader.specs.Limits.{KeepsSize, IsWithinLimits}
 use Rattle.recipe_reader.specs.Recipes.{NamedChunk, RecipeValue, with_pair, file_number}
 use Rattle.recipe_reader.proofs.RowsTaken.{chunk_of-named, with_row-named, file_there, file_refused, pair_refused, follows_named}

@@ -1,4 +1,4 @@
-use Rattle.std.proofs.Common.{◌≡◌, ◌++◌, ℕ, List, length}
+use Rattle.std.proofs.Common.{◌≡◌, ◌+◌, ◌≤◌, ◌++◌, ℕ, List, length}
 use Rattle.csv_rows.specs.Rows.{rows_of}
 use Rattle.recipe_reader.specs.Reading.{Leads}
 use Rattle.recipe_reader.specs.Recipes.{empty_recipe}
@@ -10,5 +10,6 @@ invariant-loop-before l = record {
   front : List (List (List ℕ));
   split : rows_of l.text ≡ front ++ l.rows;
   count : l.before ≡ length front;
+  few : l.before + length l.rows ≤ length l.text;
   lawful : Leads empty_recipe front l.recipe;
 }

@@ -3,7 +3,7 @@ use Rattle.std.proofs.lemmas.Result.{IfErr-weaker}
 use Rattle.csv.specs.Records.{fields_of}
 use Rattle.recipe_reader.specs.Parts.{IsRowFault, row_of}
 use Rattle.recipe_reader.specs.Reading.{IsFault}
-use Rattle.recipe_reader.specs.Rows.{SpellsRow}
+use Rattle.recipe_reader.specs.RecipeRows.{SpellsRow}
 use Rattle.recipe_reader.specs.declared.error.RecipeError.TheVariants.{Memory}
 use Rattle.recipe_reader.proofs.Fields.{named_lawful, three_fields}
 use Rattle.recipe_reader.proofs.RowsTaken.{row_fault, spells_fields, takes_row}

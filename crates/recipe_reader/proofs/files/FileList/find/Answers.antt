@@ -2,7 +2,7 @@ use Rattle.std.proofs.Common.{◌≡◌, ◌∙◌, ◌-◌, Some, String, Globa
 use Rattle.std.specs.Cmp.Lexicographic.{same_text}
 use Rattle.std.specs.String.{string_bytes}
 use Rattle.recipe_reader.specs.Recipes.{is_named}
-use Rattle.recipe_reader.proofs.Numbers.{number_of_only, number_of_view, to_view}
+use Rattle.list_facts.proofs.Numbering.{number_of_only, number_of_view, to_view}
 use Rattle.recipe_reader.proofs.files.FileList.find.Goals as goal
 
 pub returns-then-eq : goal.returns-then-eq

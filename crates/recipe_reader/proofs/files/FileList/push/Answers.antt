@@ -1,6 +1,6 @@
 use Rattle.recipe_reader.specs.Recipes.{is_named}
 use Rattle.std.specs.String.{string_bytes}
-use Rattle.recipe_reader.proofs.Numbers.{put_last_view}
+use Rattle.list_facts.proofs.Numbering.{put_last_view}
 use Rattle.recipe_reader.proofs.files.FileList.push.Goals as goal
 
 pub returns-clause-ok : goal.returns-clause-ok

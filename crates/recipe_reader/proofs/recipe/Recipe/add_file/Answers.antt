@@ -2,7 +2,7 @@ use Rattle.std.proofs.Common.{◌∙◌, arith, sym}
 use Rattle.recipe_reader.specs.Recipes.{is_named}
 use Rattle.recipe_reader.specs.RecipeInside.{view_of}
 use Rattle.recipe_reader.proofs.Keeping.{file_keeps, named_equiv}
-use Rattle.recipe_reader.proofs.Numbers.{place}
+use Rattle.list_facts.proofs.Numbering.{place}
 use Rattle.recipe_reader.proofs.OnePairMore.{number_last}
 use Rattle.recipe_reader.proofs.recipe.Recipe.add_file.Goals as goal
 

@@ -1,7 +1,7 @@
 use Rattle.std.specs.Prelude.{IfErr}
 use Rattle.std.proofs.Common.{◌≡◌, ◌∙◌, ap, sym, subst, Some}
 use Rattle.std.proofs.lemmas.Result.{IfErr-weaker}
-use Rattle.recipe_reader.specs.Adding.{IsLimitFault, IsPairFault}
+use Rattle.recipe_reader.specs.AddFaults.{IsLimitFault, IsPairFault}
 use Rattle.recipe_reader.specs.RecipeInside.{view_of}
 use Rattle.recipe_reader.specs.Recipes.{NamedChunk, RecipeValue, with_pair, with_use}
 use Rattle.recipe_reader.specs.Limits.{KeepsSize}
