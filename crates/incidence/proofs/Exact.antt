@@ -1,17 +1,18 @@
 -- The incidence of a recipe is exact, and its classes are those of the recipe's chunks.
 use Rattle.std.proofs.Common.{◌≡◌, ◌∙◌, ◌<◌, ◌∷◌, [], ℕ, List, true, sym, ap, length, get_or, arith, inl, inr}
-use Rattle.std.specs.Prelude.{◌==◌}
+use Rattle.std.specs.Prelude.{◌==◌, All}
 use Rattle.std.specs.List.{list_any, range_with_len, AllByRecursion}
 use Rattle.std.proofs.lemmas.Bool.{cases_Bool, eqb-true}
 use Rattle.std.proofs.lemmas.List.{length-map}
-use Rattle.std.proofs.lemmas.List.Elements.{recursion_from_All}
+use Rattle.std.proofs.lemmas.List.Elements.{All-filter, All-from_recursion, recursion_from_All}
 use Rattle.std.proofs.lemmas.List.Kept.{IsStrictlyIncreasing-filter}
 use Rattle.std.proofs.lemmas.List.FromFn.{length-map-range_with_len, get_or-map-range_with_len, fill_by_all}
 use Rattle.seed_model.specs.declared.table.Class.{Class}
+use Rattle.seed_model.specs.Tables.{IsClass}
 use Rattle.recipe_reader.specs.Lawful.{IsRecipe, IsPairBelow}
 use Rattle.recipe_reader.specs.Recipes.{NamedChunk, RecipeValue, is_pair, users_of, chunks_of, chunk_class, table_of, size_at}
-use Rattle.incidence.specs.Incidences.{incidence_of, class_at, chunk_classes, chunk_table, IsIncidence, OfRecipes, UsersAreExact, ChunksAreExact}
-use Rattle.incidence.proofs.ChunkTables.{is_table, range-rises, file_below}
+use Rattle.incidence.specs.Incidences.{IncidenceValue, incidence_of, class_at, chunk_classes, chunk_table, IsIncidence, OfRecipes, UsersAreExact, ChunksAreExact}
+use Rattle.incidence.proofs.ChunkTables.{is_table, range-below, range-rises, file_below}
 use Rattle.incidence.proofs.Turned.{any-kept}
 
 -- the chunk of a pair that stands is one of the chunks
@@ -69,6 +70,12 @@ table_same recipe =
     let classes = classes_same recipe in
     λ i. record { files = files i; classes = classes i }
 
+chunks_below : (recipe : RecipeValue) (file : ℕ) → All (λ chunk. chunk < length recipe.chunks) (chunks_of recipe file)
+chunks_below recipe file =
+    let chunks = length recipe.chunks in
+    All-filter (λ chunk. list_any (is_pair file chunk) recipe.pairs) (λ chunk. chunk < chunks) (range_with_len 0 chunks)
+    (All-from_recursion (λ chunk. chunk < chunks) (range_with_len 0 chunks) (range-below 0 chunks chunks (omega arith)))
+
 pub is_incidence : (recipe : RecipeValue) → IsRecipe recipe → IsIncidence (incidence_of recipe)
 is_incidence recipe r = record {
   sizes = length-map recipe.chunks (λ (c : NamedChunk). c.size) ∙ sym (users_len recipe);
@@ -77,6 +84,9 @@ is_incidence recipe r = record {
       let small : file < length recipe.files = omega (arith, lt, files_len recipe) in
       let rises = (chunks_exact recipe file r).0 in
       rw (chunks_at recipe file small) rises;
+  below = λ file lt.
+      let small : file < length recipe.files = omega (arith, lt, files_len recipe) in
+      rw (chunks_at recipe file small, users_len recipe) (chunks_below recipe file);
   agree = λ file chunk f_lt c_lt.
       let f_small : file < length recipe.files = omega (arith, f_lt, files_len recipe) in
       let c_small : chunk < length recipe.chunks = omega (arith, c_lt, users_len recipe) in
@@ -87,3 +97,10 @@ is_incidence recipe r = record {
 
 pub of_recipes : OfRecipes
 of_recipes recipe r = (is_incidence recipe r, table_same recipe)
+
+-- the users of each chunk are those of a class
+pub users_class : (incidence : IncidenceValue) (chunk : ℕ) → IsIncidence incidence → chunk < length incidence.users → IsClass (length incidence.chunks) (class_at incidence chunk)
+users_class incidence chunk is lt =
+    let none : Class = record { size = 0; users = [] } in
+    let size = length-map-range_with_len (class_at incidence) 0 (length incidence.users) in
+    rw (get_or-map-range_with_len (class_at incidence) 0 (length incidence.users) chunk chunk none lt (omega arith)) at (is.table.each chunk none (omega (arith, lt, size)))

@@ -1,5 +1,5 @@
 -- Which file uses which chunk, both ways.
-use Rattle.std.specs.Prelude.{◌≡◌, ℕ, ◌<◌, ◌==◌, List, [], length, map, refl, slice_index, slice_index_or}
+use Rattle.std.specs.Prelude.{◌≡◌, ℕ, ◌<◌, ◌==◌, All, List, [], length, map, refl, slice_index, slice_index_or}
 use Rattle.std.specs.List.{list_any, range_with_len}
 use Rattle.std.specs.List.Sorted.{IsStrictlyIncreasing}
 use Rattle.std.specs.Coded.{Coded, code_by, coded×, coded_ℕ, coded_list}
@@ -46,11 +46,12 @@ Agree incidence = (file chunk : ℕ) → file < length incidence.chunks → chun
     → list_any (λ user. file == user) (slice_index_or incidence.users chunk []) ≡ list_any (λ used. chunk == used) (slice_index_or incidence.chunks file [])
 
 -- what every incidence keeps: a size and users for each chunk; the limits of a table, users among them that rise; chunks that
--- rise; and both ways say the same
+-- rise and are there; and both ways say the same
 pub record IsIncidence (incidence : IncidenceValue) : Type 0 where
   pub sizes : length incidence.sizes ≡ length incidence.users
   pub table : IsTable (chunk_table incidence)
   pub rising : (file : ℕ) → file < length incidence.chunks → IsStrictlyIncreasing (slice_index_or incidence.chunks file [])
+  pub below : (file : ℕ) → file < length incidence.chunks → All (λ chunk. chunk < length incidence.users) (slice_index_or incidence.chunks file [])
   pub agree : Agree incidence
 
 -- the incidence of a recipe is one, and its classes are those of the recipe's chunks

@@ -1,10 +1,10 @@
 // The users of chunks and the chunks of files.
-ghost use Rattle.std.specs.Prelude.{◌≡◌, ◌<◌, [], length, IfOk, map, slice_index, slice_index_or};
+ghost use Rattle.std.specs.Prelude.{◌≡◌, ◌<◌, [], All, length, IfOk, map, slice_index, slice_index_or};
+ghost use Rattle.std.specs.List.Sorted.{IsStrictlyIncreasing};
 ghost use Rattle.recipe_reader.specs.Recipes.{users_of, chunks_of};
 ghost use Rattle.incidence.specs.Incidences.{IsIncidence, incidence_of};
 
-use crate::by_key::by_key;
-use crate::rows::Rows;
+use list_facts::{KeyedLists, group, transpose};
 use recipe_reader::Recipe;
 use seed_model::NoMemory;
 use std::alloc::Global;
@@ -14,8 +14,8 @@ use std::marker::Model;
 #[derive(Drop)]
 pub struct Incidence {
     sizes: Vec<u64>,
-    users: Rows,
-    chunks: Rows,
+    users: KeyedLists<u32>,
+    chunks: KeyedLists<u32>,
 }
 
 impl Model for Incidence {
@@ -37,11 +37,8 @@ impl Incidence {
         ensures { IfOk result (λ incidence. incidence ≡ incidence_of recipe.now) }
     {
         let sizes = sizes_of(alloc, recipe)?;
-        let named = by_key(alloc, recipe.pairs(), recipe.files())?;
-        let by_file = named.with_numbers(alloc)?;
-        let users = by_key(alloc, &by_file, recipe.chunks())?;
-        let by_chunk = users.with_numbers(alloc)?;
-        let chunks = by_key(alloc, &by_chunk, recipe.files())?;
+        let users = users_by_chunk(alloc, recipe)?;
+        let chunks = transpose(alloc, &users, recipe.files())?;
         Ok(Incidence {
             sizes,
             users,
@@ -76,17 +73,22 @@ impl Incidence {
     /// The files that use a chunk, by number in strictly rising order.
     pub fn users(&self, chunk: u32) -> &[u32]
         requires { chunk < length self.now.users }
-        ensures { result.now ≡ slice_index_or self.now.users chunk [] }
+        ensures users { result.now ≡ slice_index_or self.now.users chunk [] }
+        ensures some { 0 < length result.now }
+        ensures rising { IsStrictlyIncreasing result.now }
+        ensures below { All (λ file. file < length self.now.chunks) result.now }
     {
-        self.users.row(chunk)
+        self.users.list(chunk)
     }
 
     /// The chunks that a file uses, by number in strictly rising order.
     pub fn chunks(&self, file: u32) -> &[u32]
         requires { file < length self.now.chunks }
-        ensures { result.now ≡ slice_index_or self.now.chunks file [] }
+        ensures chunks { result.now ≡ slice_index_or self.now.chunks file [] }
+        ensures rising { IsStrictlyIncreasing result.now }
+        ensures below { All (λ chunk. chunk < length self.now.users) result.now }
     {
-        self.chunks.row(file)
+        self.chunks.list(file)
     }
 }
 
@@ -99,4 +101,12 @@ fn sizes_of(alloc: Global, recipe: &Recipe) -> Result<Vec<u64>, NoMemory>
         sizes.push(recipe.size(chunk))?;
     }
     Ok(sizes)
+}
+
+/// The users of each chunk, in rising order: its files by the pairs, turned.
+fn users_by_chunk(alloc: Global, recipe: &Recipe) -> Result<KeyedLists<u32>, NoMemory>
+    ensures { IfOk result (λ users. users ≡ (incidence_of recipe.now).users) }
+{
+    let by_file = group(alloc, recipe.pairs(), recipe.files(), 0)?;
+    Ok(transpose(alloc, &by_file, recipe.chunks())?)
 }
