@@ -7,12 +7,13 @@ use Rattle.std.proofs.lemmas.List.Elements.{recursion_from_All, All-from_recursi
 use Rattle.std.proofs.lemmas.List.FromFn.{map-range_with_len_more, take-map-range_with_len, sum_by-map-range_with_len_more}
 use Rattle.std.proofs.lemmas.List.{length-map}
 use Rattle.std.proofs.lemmas.List.Sums.{sum_by-cons, sum_by-take-le, fold-append}
+use Rattle.list_facts.proofs.FirstParts.{all-firsts, length-firsts, weight-firsts}
 use Rattle.seed_model.specs.declared.limits.TheConstants.{MOST_BYTES}
 use Rattle.seed_model.specs.declared.table.Class.{Class}
 use Rattle.seed_model.specs.Sums.{bytes_where}
 use Rattle.seed_model.specs.Tables.{TableValue, IsTable, IsClass}
 use Rattle.incidence.specs.Incidences.{IncidenceValue, IsIncidence, class_at, chunk_classes}
-use Rattle.chunk_merge.specs.Adding.{with_class, bytes_in}
+use Rattle.chunk_merge.specs.Classes.{with_class, bytes_in}
 use Rattle.chunk_merge.specs.Merged.{same_users, each_once, joined, classes_of, merged}
 use Rattle.chunk_merge.proofs.Merging.{without, without-own, without-other, bytes-cons, counted-yes, counted-no, first_class, classes-cons, without-fewer, keeps}
 
@@ -89,42 +90,9 @@ chunk-fits incidence before chunk is lt made =
     let so_far = ap bytes_in made ∙ bytes-fold [] (map f (range_with_len 0 chunk)) in
     omega (arith, part, more, so_far, is.table.bytes)
 
--- what is taken once weighs no more
-weight-filter : (w : List ℕ → ℕ) (p : List ℕ → Bool) (xs : List (List ℕ)) → sum_by w (filter p xs) ≤ sum_by w xs
-weight-filter w p [] = omega arith
-weight-filter w p (x ∷ xs) = elim (cases_Bool (p x)) [
-  | inl t ↦ rw t (omega (arith, sum_by-cons w x (filter p xs), sum_by-cons w x xs, weight-filter w p xs))
-  | inr f ↦ rw f (omega (arith, sum_by-cons w x xs, weight-filter w p xs))
-]
-
-weight-once : (w : List ℕ → ℕ) (xs : List (List ℕ)) → sum_by w (each_once xs) ≤ sum_by w xs
-weight-once w [] = omega arith
-weight-once w (x ∷ xs) =
-    let rest = filter (λ other. not (same_users other x)) (each_once xs) in
-    omega (arith, sum_by-cons w x rest, sum_by-cons w x xs, weight-filter w (λ other. not (same_users other x)) (each_once xs), weight-once w xs)
-
-length-filter_le : (p : List ℕ → Bool) (xs : List (List ℕ)) → length (filter p xs) ≤ length xs
-length-filter_le p [] = omega arith
-length-filter_le p (x ∷ xs) = elim (cases_Bool (p x)) [
-  | inl t ↦ rw t (omega (arith, length-filter_le p xs))
-  | inr f ↦ rw f (omega (arith, length-filter_le p xs))
-]
-
-length-once : (xs : List (List ℕ)) → length (each_once xs) ≤ length xs
-length-once [] = omega arith
-length-once (x ∷ xs) = omega (arith, length-filter_le (λ other. not (same_users other x)) (each_once xs), length-once xs)
-
 -- users that may be those of a class
 pub IsUsers : ℕ → List ℕ → Type 0
 IsUsers files users = IsClass files (record { size = 0; users = users })
-
-all-filter : (P : List ℕ → Type 0) (p : List ℕ → Bool) (xs : List (List ℕ)) → AllByRecursion P xs → AllByRecursion P (filter p xs)
-all-filter P p [] all = tt
-all-filter P p (x ∷ xs) all = elim (cases_Bool (p x)) [ inl t ↦ rw t (all.0, all-filter P p xs all.1) | inr f ↦ rw f (all-filter P p xs all.1) ]
-
-all-once : (P : List ℕ → Type 0) (xs : List (List ℕ)) → AllByRecursion P xs → AllByRecursion P (each_once xs)
-all-once P [] all = tt
-all-once P (x ∷ xs) all = (all.0, all-filter P (λ other. not (same_users other x)) (each_once xs) (all-once P xs all.1))
 
 users_of_classes : (files : ℕ) (cs : List Class) → AllByRecursion (IsClass files) cs → AllByRecursion (IsUsers files) (map (λ (c : Class). c.users) cs)
 unfolding IsUsers
@@ -148,14 +116,15 @@ pub is-table : (table : TableValue) → IsTable table → IsTable (merged table)
 is-table table t =
     let cs = table.classes in
     let lists = map (λ (c : Class). c.users) cs in
+    let same = λ (users other : List ℕ). same_users other users in
     let total : bytes_in (classes_of cs) ≡ bytes_in cs = keeps (λ users. true) cs in
     record {
       files = t.files;
-      classes = omega (arith, length-map (each_once lists) (joined cs), length-once lists, length-map cs (λ (c : Class). c.users), t.classes);
-      pairs = omega (arith, sum_by-joined cs (each_once lists), weight-once length lists, sum_by-users cs, t.pairs);
+      classes = omega (arith, length-map (each_once lists) (joined cs), length-firsts same lists, length-map cs (λ (c : Class). c.users), t.classes);
+      pairs = omega (arith, sum_by-joined cs (each_once lists), weight-firsts same length lists, sum_by-users cs, t.pairs);
       bytes = omega (arith, total, t.bytes);
       each = All-from_recursion (IsClass table.files) (classes_of cs)
-          (classes_of_users table.files cs (each_once lists) (all-once (IsUsers table.files) lists (users_of_classes table.files cs (recursion_from_All (IsClass table.files) cs t.each))));
+          (classes_of_users table.files cs (each_once lists) (all-firsts same (IsUsers table.files) lists (users_of_classes table.files cs (recursion_from_All (IsClass table.files) cs t.each))));
     }
 
 -- all chunks are added

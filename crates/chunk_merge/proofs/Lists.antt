@@ -6,7 +6,7 @@ use Rattle.std.proofs.lemmas.Bool.{cases_Bool}
 use Rattle.std.proofs.lemmas.Grind.{get_or_default_zero}
 use Rattle.std.proofs.lemmas.List.Sums.{sum_by-cons}
 use Rattle.seed_model.specs.declared.table.Class.{Class}
-use Rattle.chunk_merge.specs.Adding.{with_class, classes_in, bytes_in}
+use Rattle.chunk_merge.specs.Classes.{with_class, classes_in, bytes_in}
 use Rattle.chunk_merge.specs.Merged.{same_users}
 
 -- users that are lacking go last

@@ -4,6 +4,7 @@ use Rattle.std.specs.Prelude.{not, filter, map, if◌then◌else◌}
 use Rattle.std.specs.Cmp.Lexicographic.{same_text}
 use Rattle.std.proofs.lemmas.Bool.{cases_Bool}
 use Rattle.std.proofs.lemmas.List.Sums.{sum_by-cons}
+use Rattle.list_facts.proofs.FirstParts.{firsts-filter}
 use Rattle.seed_model.specs.declared.table.Class.{Class}
 use Rattle.seed_model.specs.Sums.{bytes_where}
 use Rattle.chunk_merge.specs.Merged.{same_users, each_once, joined, classes_of}
@@ -23,54 +24,9 @@ differs users other = not (same_users other users)
 unfoldable pub without : List ℕ → List Class → List Class
 without users chunks = filter (λ (c : Class). differs users c.users) chunks
 
--- chunks without users that fail a test lose nothing of what passes it
-filter-kept : (p : List ℕ → Bool) (users : List ℕ) (xs : List (List ℕ)) → p users ≡ false → filter p (filter (differs users) xs) ≡ filter p xs
-unfolding differs
-filter-kept p users [] lack = refl
-filter-kept p users (x ∷ xs) lack = elim (cases_Bool (same_users x users)) [
-  | inl t ↦
-      let lost : p x ≡ false = ap p (same-is x users t) ∙ lack in
-      rw (t, lost) (filter-kept p users xs lack)
-  | inr f ↦ rw f (elim (cases_Bool (p x)) [
-    | inl t ↦ rw t (ap (λ (l : List (List ℕ)). x ∷ l) (filter-kept p users xs lack))
-    | inr n ↦ rw n (filter-kept p users xs lack)
-  ])
-]
-
-filter-yes : (p : List ℕ → Bool) (x : List ℕ) (xs : List (List ℕ)) → p x ≡ true → filter p (x ∷ xs) ≡ x ∷ filter p xs
-filter-yes p x xs t = rw t refl
-
-filter-no : (p : List ℕ → Bool) (x : List ℕ) (xs : List (List ℕ)) → p x ≡ false → filter p (x ∷ xs) ≡ filter p xs
-filter-no p x xs f = rw f refl
-
-filter-swap : (p q : List ℕ → Bool) (xs : List (List ℕ)) → filter p (filter q xs) ≡ filter q (filter p xs)
-filter-swap p q [] = refl
-filter-swap p q (x ∷ xs) =
-    let rest = filter-swap p q xs in
-    elim (cases_Bool (p x)) [
-      | inl t ↦
-          let right = ap (filter q) (filter-yes p x xs t) in
-          elim (cases_Bool (q x)) [
-            | inl u ↦
-                ap (filter p) (filter-yes q x xs u) ∙ (filter-yes p x (filter q xs) t ∙ (ap (λ (l : List (List ℕ)). x ∷ l) rest ∙ sym (right ∙ filter-yes q x (filter p xs) u)))
-            | inr u ↦ ap (filter p) (filter-no q x xs u) ∙ (rest ∙ sym (right ∙ filter-no q x (filter p xs) u))
-          ]
-      | inr f ↦
-          let right = ap (filter q) (filter-no p x xs f) in
-          elim (cases_Bool (q x)) [
-            | inl u ↦ ap (filter p) (filter-yes q x xs u) ∙ (filter-no p x (filter q xs) f ∙ (rest ∙ sym right))
-            | inr u ↦ ap (filter p) (filter-no q x xs u) ∙ (rest ∙ sym right)
-          ]
-    ]
-
 -- the lists that pass a test, each once
 once-filter : (p : List ℕ → Bool) (xs : List (List ℕ)) → each_once (filter p xs) ≡ filter p (each_once xs)
-unfolding differs
-once-filter p [] = refl
-once-filter p (x ∷ xs) = elim (cases_Bool (p x)) [
-  | inl t ↦ rw (t, once-filter p xs) (ap (λ (l : List (List ℕ)). x ∷ l) (filter-swap (differs x) p (each_once xs)))
-  | inr f ↦ rw (f, once-filter p xs) (sym (filter-kept p x (each_once xs) f))
-]
+once-filter p xs = firsts-filter (λ users other. same_users other users) p xs (λ users other t. ap p (sym (same-is other users t)))
 
 users-without : (users : List ℕ) (cs : List Class) → map (λ (c : Class). c.users) (without users cs) ≡ filter (differs users) (map (λ (c : Class). c.users) cs)
 unfolding without

@@ -1,5 +1,4 @@
-pub mod Adding
-pub mod Lists
+pub mod Classes
 pub mod Merged
 pub use Rattle.incidence.specs.Incidences as Incidences
 pub use Rattle.recipe_reader.specs.Recipes as Recipes

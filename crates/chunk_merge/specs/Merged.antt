@@ -1,7 +1,8 @@
 -- Chunks with one set of users, taken together.
-use Rattle.std.specs.Prelude.{◌≡◌, ◌↔◌, ℕ, List, [], ◌∷◌, Bool, not, filter, map, nat_eq, sum_by, if◌then◌else◌}
+use Rattle.std.specs.Prelude.{◌≡◌, ◌↔◌, ℕ, List, Bool, map, nat_eq, sum_by, if◌then◌else◌}
 use Rattle.std.specs.List.{list_any}
 use Rattle.std.specs.Cmp.Lexicographic.{pointwise}
+use Rattle.list_facts.specs.Firsts.{firsts}
 use Rattle.seed_model.specs.declared.range.Range.{Range}
 use Rattle.seed_model.specs.declared.table.Class.{Class}
 use Rattle.seed_model.specs.Best.{IsFirstBest, NoneInRange}
@@ -17,8 +18,7 @@ same_users one other = pointwise nat_eq one other
 
 -- each list once, where it first stands
 abbrev pub each_once : List (List ℕ) → List (List ℕ)
-each_once [] = []
-each_once (users ∷ rest) = users ∷ filter (λ other. not (same_users other users)) (each_once rest)
+each_once lists = firsts (λ users other. same_users other users) lists
 
 -- all chunks with these users, as one class
 abbrev pub joined : List Class → List ℕ → Class

@@ -1,7 +1,7 @@
 // A table with a class for each set of users.
 ghost use Rattle.std.specs.Prelude.{◌≡◌, ◌+◌, ◌<◌, ◌^◌, length, IfOk, OnOk};
 ghost use Rattle.incidence.specs.Incidences.{chunk_table};
-ghost use Rattle.chunk_merge.specs.Adding.{bytes_in, classes_in, with_class};
+ghost use Rattle.chunk_merge.specs.Classes.{bytes_in, classes_in, with_class};
 ghost use Rattle.chunk_merge.specs.Merged.{merged};
 
 use crate::user_list::UserList;

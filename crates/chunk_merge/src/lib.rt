@@ -7,6 +7,3 @@ mod user_list;
 
 pub use classes::merge;
 pub use laws::merge_laws;
-
-#[cfg(test)]
-mod tests;

@@ -1,8 +1,8 @@
 // Lists of users, each once.
 ghost use Rattle.std.specs.Prelude.{◌≡◌, ◌∷◌, ◌++◌, [], length, false, IfOk, OnOk, OnErr};
 ghost use Rattle.std.specs.List.{list_any};
-ghost use Rattle.recipe_reader.specs.Numbers.{IsNumberOf};
-ghost use Rattle.chunk_merge.specs.Adding.{classes_in};
+ghost use Rattle.list_facts.specs.Firsts.{IsNumberOf};
+ghost use Rattle.chunk_merge.specs.Classes.{classes_in};
 ghost use Rattle.chunk_merge.specs.Merged.{same_users};
 
 use indexmap::IndexSet;
@@ -18,7 +18,7 @@ pub(crate) struct UserList {
 
 impl Model for UserList {
     ghost use Rattle.std.specs.Prelude.{List, ℕ};
-    ghost use Rattle.chunk_merge.specs.Lists.{lists_in};
+    ghost use Rattle.list_facts.specs.Listed.{lists_in};
 
     ghost Value = { List (List ℕ) };
 

@@ -1,6 +1,6 @@
 use Rattle.std.proofs.Common.{◌≡◌, ◌∙◌, false, arith, rules}
 use Rattle.std.specs.List.{list_any}
-use Rattle.chunk_merge.specs.Adding.{classes_in}
+use Rattle.chunk_merge.specs.Classes.{classes_in}
 use Rattle.chunk_merge.specs.Merged.{same_users}
 use Rattle.chunk_merge.proofs.Lists.{added-new, place-within, read-known, known-fits}
 use Rattle.chunk_merge.proofs.classes.add_chunk.Goals as goal

@@ -1,7 +1,7 @@
 use Rattle.std.proofs.Common.{◌≡◌, ◌∙◌, ◌<◌, ap, arith, length}
 use Rattle.seed_model.specs.declared.table.Class.{Class}
 use Rattle.incidence.specs.Incidences.{class_at, chunk_classes, chunk_table}
-use Rattle.chunk_merge.specs.Adding.{classes_in}
+use Rattle.chunk_merge.specs.Classes.{classes_in}
 use Rattle.chunk_merge.specs.Merged.{classes_of}
 use Rattle.chunk_merge.proofs.Folded.{chunk-fits, folded-more, folded-all, is-table}
 use Rattle.chunk_merge.proofs.classes.merge.Goals as goal
@@ -15,7 +15,7 @@ add_chunk-requires-clause-fits c =
 pub loop-chunk-preserved : goal.loop-chunk-preserved
 loop-chunk-preserved c =
     let own : Class = record { size = c.size.result; users = c.users.result.now } in
-    let same : own ≡ class_at c.args.incidence.now c.loop-chunk.chunk = λ i. record { size = c.size.ensures i; users = c.users.ensures i } in
+    let same : own ≡ class_at c.args.incidence.now c.loop-chunk.chunk = λ i. record { size = c.size.ensures i; users = c.users.ensures.users i } in
     record {
       same = c.in_ok-add_chunk.ensures.same;
       classes = folded-more c.args.incidence.now (classes_in c.loop-chunk.users c.loop-chunk.sizes.items) (classes_in c.add_chunk.new.users c.add_chunk.new.sizes.items) c.loop-chunk.chunk own

@@ -1,6 +1,6 @@
 use Rattle.std.specs.Prelude.{Vec}
 use Rattle.std.proofs.Common.{ℕ, Global}
-use Rattle.recipe_reader.proofs.Numbers.{number_of_view}
+use Rattle.list_facts.proofs.Numbering.{number_of_view}
 use Rattle.chunk_merge.specs.Merged.{same_users}
 use Rattle.chunk_merge.proofs.user_list.UserList.find.Goals as goal
 

@@ -1,6 +1,6 @@
 use Rattle.std.proofs.Common.{◌≡◌, ◌+◌, ◌++◌, length, drop}
-use Rattle.chunk_merge.specs.Adding.{classes_in}
-use Rattle.chunk_merge.specs.Lists.{lists_in}
+use Rattle.chunk_merge.specs.Classes.{classes_in}
+use Rattle.list_facts.specs.Listed.{lists_in}
 use Rattle.chunk_merge.proofs.user_list.UserList.into_classes.Given as goal
 
 abbrev pub invariant-loop-list : goal.invariant-loop-list

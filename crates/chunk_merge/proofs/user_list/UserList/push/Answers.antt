@@ -1,6 +1,6 @@
 use Rattle.std.specs.Prelude.{Vec}
 use Rattle.std.proofs.Common.{ℕ, Global}
-use Rattle.recipe_reader.proofs.Numbers.{put_last_view}
+use Rattle.list_facts.proofs.Numbering.{put_last_view}
 use Rattle.chunk_merge.specs.Merged.{same_users}
 use Rattle.chunk_merge.proofs.user_list.UserList.push.Goals as goal
 
