@@ -7,6 +7,7 @@ use Rattle.flow_net.specs.Paths.{start_of, end_of, IsPath, used, pushed}
 use Rattle.flow_net.specs.Moves.{IsReady}
 use Rattle.flow_net.specs.Flows.{amount_on, out_of, into}
 use Rattle.flow_net.proofs.Ready.{ready_rest}
+use Rattle.flow_net.proofs.Sums.{amount_on-cons}
 use Rattle.flow_net.specs.Pushes.{part}
 
 -- a write changes one term
@@ -16,8 +17,9 @@ amount_set :
     ≡ amount_on test ps xs + cond (test (pipe_at ps i)) y 0
 amount_set test [] xs i y l e = omega arith
 amount_set test (p ∷ ps) [] i y l e = omega arith
-amount_set test (p ∷ ps) (x ∷ xs) zero y l e = omega arith
-amount_set test (p ∷ ps) (x ∷ xs) (suc i) y l e = omega (arith, amount_set test ps xs i y (omega arith) (omega arith))
+amount_set test (p ∷ ps) (x ∷ xs) zero y l e = omega (arith, amount_on-cons test p ps x xs, amount_on-cons test p ps y xs)
+amount_set test (p ∷ ps) (x ∷ xs) (suc i) y l e =
+    omega (arith, amount_on-cons test p ps x xs, amount_on-cons test p ps x (set xs i y), amount_set test ps xs i y (omega arith) (omega arith))
 
 -- one use moves an amount from its start to its end, seen from every set of nodes
 use_moves :

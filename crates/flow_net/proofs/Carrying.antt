@@ -7,6 +7,7 @@ use Rattle.flow_net.specs.Nets.{NetValue, FillingValue, IsNet, pipe_at}
 use Rattle.flow_net.specs.Paths.{end_of, left_on, IsPath, nodes_of, LeadsOn, HaveLeft, used, pushed}
 use Rattle.flow_net.specs.Moves.{Avoids, IsReady}
 use Rattle.flow_net.specs.Flows.{out_of, into, cost}
+use Rattle.flow_net.proofs.Sums.{amount_on-cons, cost-cons}
 use Rattle.flow_net.specs.Pushes.{part, across, left_across, AreWithin, IsCarried, Augments}
 use Rattle.flow_net.specs.Levels.{level_of}
 use Rattle.flow_net.specs.Trails.{Rises, IsTrail}
@@ -90,7 +91,14 @@ left_across-out s (p ∷ ps) [] each within = absurd (omega (arith, each))
 left_across-out s (p ∷ ps) (x ∷ xs) each within =
     let rest = left_across-out s ps xs (omega (arith, each)) (λ i h. within (suc i) (omega (arith, h))) in
     let one = one_pipe (s p.from) (s p.to) p.room x (within 0 (omega arith)) in
-    omega (arith, rest, one)
+    omega (
+      arith,
+      rest,
+      one,
+      amount_on-cons (λ q. s q.from) p ps x xs,
+      amount_on-cons (λ q. s q.to) p ps x xs,
+      cost-cons s p ps,
+    )
   where
     one_pipe :
         (f t : Bool) (r x : ℕ) → x ≤ r →

@@ -3,13 +3,13 @@ use Rattle.std.proofs.lemmas.Bool.{cases_lt, lt-ltb, le-ltb, ltb-true, ne_eqb}
 use Rattle.std.proofs.lemmas.List.{get_or_past, length-replicate, get_or-replicate}
 use Rattle.flow_net.specs.declared.pipes.Pipe.{Pipe}
 use Rattle.flow_net.specs.Nets.{NetValue, FillingValue, IsNet, pipe_at}
-use Rattle.flow_net.specs.Paths.{start_of, end_of}
-use Rattle.flow_net.specs.Links.{use_of}
+use Rattle.flow_net.specs.Paths.{use_of, start_of, end_of}
 use Rattle.flow_net.specs.Flows.{AreRoomsBelow, amount_on, cost, IsSide, IsFlow, IsLeastCut, IsTight, is_in}
 use Rattle.flow_net.specs.Pushes.{part, across, left_across, AreWithin, IsCarried, Augments}
 use Rattle.flow_net.specs.Levels.{unreached, level_of, IsReached, reached, IsClosed, IsSearched}
 use Rattle.flow_net.specs.Cuts.{AreSides}
 use Rattle.flow_net.proofs.Carrying.{left_across-out, augments_on}
+use Rattle.flow_net.proofs.Sums.{amount_on-cons}
 use Rattle.flow_net.proofs.Powering.{left_each, left_rooms, source_side, searched_side}
 use Rattle.std.proofs.Math.Nat.{mul-le-mul_left}
 
@@ -265,7 +265,8 @@ all_bound ps a b f g h apart carried none one two begun more (suc k) rooms =
 
 amount_on-none : (test : Pipe → Bool) (ps : List Pipe) → amount_on test ps (replicate (length ps) 0) ≡ 0
 amount_on-none test [] = refl
-amount_on-none test (p ∷ ps) = omega (arith, zero_both (test p), amount_on-none test ps)
+amount_on-none test (p ∷ ps) =
+    omega (arith, amount_on-cons test p ps 0 (replicate (length ps) 0), zero_both (test p), amount_on-none test ps)
   where
     zero_both : (b : Bool) → ◌≡◌ {A = ℕ} (cond b 0 0) 0
     zero_both true = refl

@@ -2,10 +2,14 @@ pub mod Balance
 pub mod Carrying
 pub mod Counts
 pub mod Cutting
+pub mod Linking
 pub mod Placing
 pub mod Powering
+pub mod Pushing
 pub mod Queue
 pub mod Ready
+pub mod Running
 pub mod Searching
+pub mod Sums
 pub mod Trailing
 pub mod Values

@@ -1,12 +1,14 @@
-use Rattle.std.proofs.Common.{inl, inr, ◌⊎◌, ◌≡◌, ◌≢◌, ℕ, ◌+◌, ◌≤◌, ◌<◌, Bool, cond, not, List, length, get_or, set, sym, ◌∙◌, ap, subst, arith}
+use Rattle.std.proofs.Common.{inl, inr, ◌⊎◌, ◌≡◌, ◌≢◌, refl, ℕ, ◌+◌, ◌≤◌, ◌<◌, Bool, true, false, cond, not, List, length, get_or, set, sym, ◌∙◌, ap, subst, arith}
+use mathlib.Core.Bool.{beq}
 use Rattle.std.specs.Prelude.{count_by}
 use Rattle.std.proofs.lemmas.List.{get_or-set_other, get_or-set_same}
 use Rattle.std.proofs.lemmas.List.Sums.{sum_by-set, get_or-le-sum_by}
 use Rattle.std.proofs.lemmas.Bool.{cases_eq, cases_lt, lt-ltb, le-ltb}
 use Rattle.flow_net.specs.declared.pipes.Pipe.{Pipe}
 use Rattle.flow_net.specs.declared.links.Link.{Link}
+use Rattle.flow_net.specs.Paths.{use_of, left_on}
 use Rattle.flow_net.specs.Links.{link_at}
-use Rattle.flow_net.specs.Levels.{LeadsFar, IsNext, Spreads, unreached, level_of, IsReached, is_unreached, IsQueue}
+use Rattle.flow_net.specs.Levels.{turned, LeadsFar, IsNext, Spreads, unreached, level_of, IsReached, is_unreached, IsQueue}
 
 one_unreached : (x : ℕ) → unreached ≤ x → ◌≡◌ {A = ℕ} (cond (is_unreached x) 1 0) 1
 one_unreached x h = ap (λ b. cond {A = ℕ} (not b) 1 0) (le-ltb x unreached h)
@@ -69,6 +71,67 @@ queue_marked n levels queue count far level sized each few known new low is =
                 (was.0, omega (arith, was.1), get_or-set_other queue count was.0 far 0 (let l = was.1 in omega (arith, l)) ∙ was.2)
           ];
     }
+
+-- and is reached from then on
+pub marked_reached :
+    (n : ℕ) (levels queue : List ℕ) (count far level : ℕ) → length levels ≡ n → n < unreached → far < n → level ≤ count →
+    IsQueue n levels queue count → IsReached (set levels far level) far
+marked_reached n levels queue count far level sized few known low is =
+    let mine : get_or (set levels far level) far unreached ≡ level = get_or-set_same levels far level unreached (omega (arith, sized, known)) in
+    omega (arith, mine, is.counted, low, few)
+
+-- that is what the link leads to, and nothing else changed
+pub spreads_marked :
+    (ps : List Pipe) (xs : List ℕ) (power : ℕ) (backward : Bool) (link : Link) (level : ℕ) (levels queue : List ℕ) (count : ℕ) →
+    link.far < length levels → level_of levels link.far ≡ unreached → LeadsFar ps xs power backward link →
+    Spreads (λ v. (link.far ≡ v) × LeadsFar ps xs power backward link) level levels (set levels link.far (level + 1)) queue
+    (set queue count link.far) count (count + 1)
+spreads_marked ps xs power backward link level levels queue count known new leads =
+    let others : (v : ℕ) → v ≢ link.far → get_or (set levels link.far (level + 1)) v unreached ≡ get_or levels v unreached =
+    λ v differ. get_or-set_other levels link.far v (level + 1) unreached differ in
+    record {
+      kept =
+          λ v h.
+          others v (λ e. let at : get_or levels v unreached ≡ unreached = ap (λ (u : ℕ). get_or levels u unreached) e ∙ new in omega (arith, at, h));
+      near =
+          λ v h.
+          elim (cases_eq v link.far) as (λ _. IsReached levels v ⊎ (((link.far ≡ v) × LeadsFar ps xs power backward link) × (level_of (set levels link.far (level + 1)) v ≡ level + 1))) [
+            | inl same ↦
+                inr (
+                  (sym same, leads),
+                  ap (λ (u : ℕ). get_or (set levels link.far (level + 1)) u unreached) same ∙ get_or-set_same levels link.far (level + 1) unreached known,
+                )
+            | inr differ ↦ inl (subst (λ x. x < unreached) (others v differ) h)
+          ];
+      grows = omega arith;
+      queue = λ j h. get_or-set_other queue count j link.far 0 (omega (arith, h));
+    }
+
+-- no node is reached newly
+pub spreads_none : (able : ℕ → Type 0) (level : ℕ) (levels queue : List ℕ) (count : ℕ) → Spreads able level levels levels queue queue count count
+spreads_none able level levels queue count =
+    record {
+      kept = λ v h. refl;
+      near = λ v h. inl h;
+      grows = omega arith;
+      queue = λ j h. refl;
+    }
+
+-- whether a use back, looked at one way or the other, is turned
+turned_is : (back backward : Bool) → not (beq back backward) ≡ turned backward back
+turned_is true true = refl
+turned_is true false = refl
+turned_is false true = refl
+turned_is false false = refl
+
+-- a use across the link that has so much left leads on
+pub leads_on :
+    (ps : List Pipe) (xs : List ℕ) (power : ℕ) (backward : Bool) (link : Link) (left : ℕ) →
+    left ≡ left_on ps xs (use_of link.pipe (not (beq link.back backward))) → power ≤ left → LeadsFar ps xs power backward link
+leads_on ps xs power backward link left is enough =
+    let same : left ≡ left_on ps xs (use_of link.pipe (turned backward link.back)) =
+    is ∙ ap (λ b. left_on ps xs (use_of link.pipe b)) (turned_is link.back backward) in
+    omega (arith, same, enough)
 
 -- what was reached stays reached
 pub reached_kept :

@@ -4,10 +4,10 @@ use Rattle.std.specs.Prelude.{count_by}
 use Rattle.std.proofs.lemmas.List.Sums.{sum_by-cons}
 use Rattle.std.proofs.lemmas.List.{get_or-set_other, get_or-set_same}
 use Rattle.flow_net.specs.declared.pipes.Pipe.{Pipe}
-use Rattle.flow_net.specs.declared.links.Rows.{Rows}
+use Rattle.flow_net.specs.declared.links.Adjacency.{Adjacency}
 use Rattle.flow_net.specs.Nets.{NetValue}
-use Rattle.flow_net.specs.Paths.{start_of, end_of, left_on}
-use Rattle.flow_net.specs.Links.{use_of, link_at, row_of, AreRows, IsLinked}
+use Rattle.flow_net.specs.Paths.{use_of, start_of, end_of, left_on}
+use Rattle.flow_net.specs.Links.{link_at, row_of, IsAdjacency, IsLinked}
 use Rattle.flow_net.specs.Levels.{unreached, level_of, IsReached, reached, turned, is_unreached, IsQueue, IsClosed, HasParent, LeadsFar, IsNext, Spreads, IsSearched}
 use Rattle.flow_net.proofs.Queue.{reached_kept, queue_marked}
 
@@ -23,12 +23,12 @@ pub record Searching (ps : List Pipe) (xs : List ℕ) (power : ℕ) (backward : 
       (j : ℕ) → j < head → (i : ℕ) (b : Bool) → i < length ps → start_of ps (use_of i b) ≡ get_or queue j 0 →
       power ≤ left_on ps xs (use_of i (turned backward b)) → IsReached levels (end_of ps (use_of i b))
 
-module _ (net : NetValue) (rows : Rows) (xs : List ℕ) (power : ℕ) (backward : Bool) (start goal : ℕ) (levels queue : List ℕ) (count head : ℕ)
-    (few : net.nodes < unreached) (are : AreRows net rows) (state : Searching net.pipes xs power backward start goal net.nodes levels queue count head) (h : head < count) (missed : level_of levels goal ≡ unreached)
+module _ (net : NetValue) (adjacency : Adjacency) (xs : List ℕ) (power : ℕ) (backward : Bool) (start goal : ℕ) (levels queue : List ℕ) (count head : ℕ)
+    (few : net.nodes < unreached) (are : IsAdjacency net adjacency) (state : Searching net.pipes xs power backward start goal net.nodes levels queue count head) (h : head < count) (missed : level_of levels goal ≡ unreached)
     (levels2 queue2 : List ℕ) (count2 : ℕ)
     (is2 : IsQueue net.nodes levels2 queue2 count2)
-    (spreads : Spreads (IsNext net.pipes xs power backward (row_of rows (get_or queue head 0)) (length (row_of rows (get_or queue head 0)))) (level_of levels (get_or queue head 0)) levels levels2 queue queue2 count count2)
-    (crossed : (k : ℕ) → k < length (row_of rows (get_or queue head 0)) → LeadsFar net.pipes xs power backward (link_at (row_of rows (get_or queue head 0)) k) → IsReached levels2 (link_at (row_of rows (get_or queue head 0)) k).far) where
+    (spreads : Spreads (IsNext net.pipes xs power backward (row_of adjacency (get_or queue head 0)) (length (row_of adjacency (get_or queue head 0)))) (level_of levels (get_or queue head 0)) levels levels2 queue queue2 count count2)
+    (crossed : (k : ℕ) → k < length (row_of adjacency (get_or queue head 0)) → LeadsFar net.pipes xs power backward (link_at (row_of adjacency (get_or queue head 0)) k) → IsReached levels2 (link_at (row_of adjacency (get_or queue head 0)) k).far) where
   abbrev node : ℕ
   node = get_or queue head 0
 
@@ -54,7 +54,7 @@ module _ (net : NetValue) (rows : Rows) (xs : List ℕ) (power : ℕ) (backward 
               lower = ap (λ n. n + 1) (spreads.kept (start_of net.pipes (use_of p.pipe p.back)) up) ∙ (p.lower ∙ sym (spreads.kept v old));
             }
         | inr able ↦
-            let link = link_at (row_of rows node) able.0.0 in
+            let link = link_at (row_of adjacency node) able.0.0 in
             let at = are.links node able.0.0 (state.queue_is.queued head h).0 able.0.1 in
             record {
               pipe = link.pipe;
@@ -76,7 +76,7 @@ module _ (net : NetValue) (rows : Rows) (xs : List ℕ) (power : ℕ) (backward 
       elim (spreads.near v r) as (λ _. s v ≡ true) [
         | inl old ↦ state.within s closed at v old
         | inr able ↦
-            let link = link_at (row_of rows node) able.0.0 in
+            let link = link_at (row_of adjacency node) able.0.0 in
             let is = are.links node able.0.0 (state.queue_is.queued head h).0 able.0.1 in
             let here : s (start_of net.pipes (use_of link.pipe link.back)) ≡ true = ap s is.near ∙ state.within s closed at node node_reached in
             sym (ap s (is.far ∙ able.0.2)) ∙ closed link.pipe link.back is.known able.0.3 here
@@ -86,9 +86,9 @@ module _ (net : NetValue) (rows : Rows) (xs : List ℕ) (power : ℕ) (backward 
       (i : ℕ) (b : Bool) → i < length net.pipes → start_of net.pipes (use_of i b) ≡ node →
       power ≤ left_on net.pipes xs (use_of i (turned backward b)) → IsReached levels2 (end_of net.pipes (use_of i b))
   done_here i b l at left =
-      let linked : IsLinked net.pipes (row_of rows node) i b =
-      subst (λ v. IsLinked net.pipes (row_of rows v) i b) at (are.complete i b l) in
-      let link = link_at (row_of rows node) linked.place in
+      let linked : IsLinked net.pipes (row_of adjacency node) i b =
+      subst (λ v. IsLinked net.pipes (row_of adjacency v) i b) at (are.complete i b l) in
+      let link = link_at (row_of adjacency node) linked.place in
       let is = are.links node linked.place (state.queue_is.queued head h).0 linked.within in
       let leads : LeadsFar net.pipes xs power backward link =
       subst (λ n. power ≤ left_on net.pipes xs (use_of n (turned backward link.back))) (sym linked.pipe)

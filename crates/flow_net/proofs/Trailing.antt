@@ -6,61 +6,61 @@ use Rattle.std.proofs.lemmas.List.Sums.{sum_by-set, sum_by-le}
 use Rattle.flow_net.specs.declared.pipes.Pipe.{Pipe}
 use Rattle.flow_net.specs.declared.pipes.Use.{Use}
 use Rattle.flow_net.specs.declared.links.Link.{Link}
-use Rattle.flow_net.specs.declared.links.Rows.{Rows}
+use Rattle.flow_net.specs.declared.links.Adjacency.{Adjacency}
 use Rattle.flow_net.specs.Nets.{NetValue, IsNet}
-use Rattle.flow_net.specs.Paths.{start_of, end_of, left_on, IsPath}
-use Rattle.flow_net.specs.Links.{use_of, link_at, row_of, AreRows, IsLinked}
+use Rattle.flow_net.specs.Paths.{use_of, start_of, end_of, left_on, IsPath}
+use Rattle.flow_net.specs.Links.{link_at, row_of, IsAdjacency, IsLinked}
 use Rattle.flow_net.specs.Levels.{level_of, IsReached, IsSearched}
 use Rattle.flow_net.specs.Trails.{IsGood, Rises, IsTrail, AreBounded, HaveWays}
 use Rattle.flow_net.proofs.Ready.{no_use}
 
--- the pointers of the nodes at which uses end are not past the end of their rows
-abbrev pub Pointed : List Pipe → Rows → List ℕ → List Use → Type 0
-Pointed ps rows next [] = Unit {0}
-Pointed ps rows next (u ∷ us) = (get_or next (end_of ps u) 0 < length (row_of rows (end_of ps u))) × Pointed ps rows next us
+-- the pointers of the nodes at which uses end are not past the end of their adjacency
+abbrev pub Pointed : List Pipe → Adjacency → List ℕ → List Use → Type 0
+Pointed ps adjacency next [] = Unit {0}
+Pointed ps adjacency next (u ∷ us) = (get_or next (end_of ps u) 0 < length (row_of adjacency (end_of ps u))) × Pointed ps adjacency next us
 
 -- the state of a walk from the sink back to the source
-pub record Trailing (net : NetValue) (rows : Rows) (xs : List ℕ) (power : ℕ) (levels : List ℕ) (sink : ℕ) (next : List ℕ) (path : List Use) (node : ℕ) : Type 0 where
+pub record Trailing (net : NetValue) (adjacency : Adjacency) (xs : List ℕ) (power : ℕ) (levels : List ℕ) (sink : ℕ) (next : List ℕ) (path : List Use) (node : ℕ) : Type 0 where
   pub known : node < net.nodes
   pub low : level_of levels node ≤ length path
-  pub bounded : AreBounded net.nodes rows next
+  pub bounded : AreBounded net.nodes adjacency next
   pub trail : IsTrail net.pipes xs power levels node sink (drop (level_of levels node) path)
-  pub pointed : Pointed net.pipes rows next (drop (level_of levels node) path)
+  pub pointed : Pointed net.pipes adjacency next (drop (level_of levels node) path)
 
 -- a write at a lower node keeps the pointers of a rising path
 pointed_after :
-    (ps : List Pipe) (rows : Rows) (levels next : List ℕ) (v y level : ℕ) (us : List Use) → level_of levels v ≤ level →
-    Rises ps levels level us → Pointed ps rows next us → Pointed ps rows (set next v y) us
-pointed_after ps rows levels next v y level [] low rises pointed = tt
-pointed_after ps rows levels next v y level (u ∷ us) low rises pointed =
+    (ps : List Pipe) (adjacency : Adjacency) (levels next : List ℕ) (v y level : ℕ) (us : List Use) → level_of levels v ≤ level →
+    Rises ps levels level us → Pointed ps adjacency next us → Pointed ps adjacency (set next v y) us
+pointed_after ps adjacency levels next v y level [] low rises pointed = tt
+pointed_after ps adjacency levels next v y level (u ∷ us) low rises pointed =
     let differ : end_of ps u ≢ v =
     λ e. let same : level_of levels (end_of ps u) ≡ level_of levels v = ap (λ n. level_of levels n) e in
     absurd (omega (arith, same, rises.0, low)) in (
-      subst (λ n. n < length (row_of rows (end_of ps u))) (sym (get_or-set_other next v (end_of ps u) y 0 differ)) pointed.0,
-      pointed_after ps rows levels next v y (level + 1) us (omega (arith, low)) rises.1 pointed.1,
+      subst (λ n. n < length (row_of adjacency (end_of ps u))) (sym (get_or-set_other next v (end_of ps u) y 0 differ)) pointed.0,
+      pointed_after ps adjacency levels next v y (level + 1) us (omega (arith, low)) rises.1 pointed.1,
     )
 
 bounded_after :
-    (nodes : ℕ) (rows : Rows) (next : List ℕ) (v y : ℕ) → y ≤ length (row_of rows v) → AreBounded nodes rows next →
-    length next ≡ nodes → v < nodes → AreBounded nodes rows (set next v y)
-bounded_after nodes rows next v y within bounded sized known u h =
+    (nodes : ℕ) (adjacency : Adjacency) (next : List ℕ) (v y : ℕ) → y ≤ length (row_of adjacency v) → AreBounded nodes adjacency next →
+    length next ≡ nodes → v < nodes → AreBounded nodes adjacency (set next v y)
+bounded_after nodes adjacency next v y within bounded sized known u h =
     elim (cases_eq u v) [
       | inl same ↦
-          subst (λ n. get_or (set next v y) n 0 ≤ length (row_of rows n)) (sym same)
+          subst (λ n. get_or (set next v y) n 0 ≤ length (row_of adjacency n)) (sym same)
           (omega (arith, get_or-set_same next v y 0 (omega (arith, sized, known)), within))
       | inr differ ↦ omega (arith, get_or-set_other next v u y 0 differ, bounded u h)
     ]
 
 -- one use more in front
 pub trailing_down :
-    (net : NetValue) (rows : Rows) (xs : List ℕ) (power : ℕ) (levels : List ℕ) (sink : ℕ) (next : List ℕ) (path : List Use) (node place : ℕ) →
-    IsNet net → AreRows net rows → length next ≡ net.nodes → Trailing net rows xs power levels sink next path node →
-    place < length (row_of rows node) → IsGood net.pipes xs power levels (level_of levels node) (link_at (row_of rows node) place) →
-    Trailing net rows xs power levels sink (set next node place)
-    (set path (level_of levels node - 1) (use_of (link_at (row_of rows node) place).pipe (not (link_at (row_of rows node) place).back)))
-    (link_at (row_of rows node) place).far
-trailing_down net rows xs power levels sink next path node place lawful are sized state within good =
-    let link = link_at (row_of rows node) place in
+    (net : NetValue) (adjacency : Adjacency) (xs : List ℕ) (power : ℕ) (levels : List ℕ) (sink : ℕ) (next : List ℕ) (path : List Use) (node place : ℕ) →
+    IsNet net → IsAdjacency net adjacency → length next ≡ net.nodes → Trailing net adjacency xs power levels sink next path node →
+    place < length (row_of adjacency node) → IsGood net.pipes xs power levels (level_of levels node) (link_at (row_of adjacency node) place) →
+    Trailing net adjacency xs power levels sink (set next node place)
+    (set path (level_of levels node - 1) (use_of (link_at (row_of adjacency node) place).pipe (not (link_at (row_of adjacency node) place).back)))
+    (link_at (row_of adjacency node) place).far
+trailing_down net adjacency xs power levels sink next path node place lawful are sized state within good =
+    let link = link_at (row_of adjacency node) place in
     let step = use_of link.pipe (not link.back) in
     let at = are.links node place state.known within in
     let level = level_of levels link.far in
@@ -82,16 +82,16 @@ trailing_down net rows xs power levels sink next path node place lawful are size
       left = (good.left, state.trail.left);
     } in
     let mine : get_or (set next node place) node 0 ≡ place = get_or-set_same next node place 0 (let k = state.known in omega (arith, k, sized)) in
-    let pointed : Pointed net.pipes rows (set next node place) (step ∷ rest) = (
-      subst (λ v. get_or (set next node place) v 0 < length (row_of rows v)) (sym ends) (subst (λ n. n < length (row_of rows node)) (sym mine) within),
-      pointed_after net.pipes rows levels next node place (level_of levels node) rest (omega arith) state.trail.rises state.pointed,
+    let pointed : Pointed net.pipes adjacency (set next node place) (step ∷ rest) = (
+      subst (λ v. get_or (set next node place) v 0 < length (row_of adjacency v)) (sym ends) (subst (λ n. n < length (row_of adjacency node)) (sym mine) within),
+      pointed_after net.pipes adjacency levels next node place (level_of levels node) rest (omega arith) state.trail.rises state.pointed,
     ) in
     record {
       known = subst (λ v. v < net.nodes) at.far (far_known link.back link.pipe at.known);
       low = subst (λ n. level ≤ n) (sym (length-set path (level_of levels node - 1) step)) (omega (arith, inside));
-      bounded = bounded_after net.nodes rows next node place (omega (arith, within)) state.bounded sized state.known;
+      bounded = bounded_after net.nodes adjacency next node place (omega (arith, within)) state.bounded sized state.known;
       trail = subst (λ us. IsTrail net.pipes xs power levels link.far sink us) (sym cut) trail;
-      pointed = subst (λ us. Pointed net.pipes rows (set next node place) us) (sym cut) pointed;
+      pointed = subst (λ us. Pointed net.pipes adjacency (set next node place) us) (sym cut) pointed;
     }
   where
     turns_start : (ps : List Pipe) (i : ℕ) (b : Bool) → start_of ps (use_of i (not b)) ≡ end_of ps (use_of i b)
@@ -108,9 +108,9 @@ trailing_down net rows xs power levels sink next path node place lawful are size
 
 -- the path goes on where the walk is not at the sink
 pub trail_goes_on :
-    (net : NetValue) (rows : Rows) (xs : List ℕ) (power : ℕ) (levels : List ℕ) (sink : ℕ) (next : List ℕ) (path : List Use) (node : ℕ) →
-    Trailing net rows xs power levels sink next path node → node ≢ sink → level_of levels node < length path
-trail_goes_on net rows xs power levels sink next path node state differ =
+    (net : NetValue) (adjacency : Adjacency) (xs : List ℕ) (power : ℕ) (levels : List ℕ) (sink : ℕ) (next : List ℕ) (path : List Use) (node : ℕ) →
+    Trailing net adjacency xs power levels sink next path node → node ≢ sink → level_of levels node < length path
+trail_goes_on net adjacency xs power levels sink next path node state differ =
     elim (cases_lt (level_of levels node) (length path)) as (λ _. level_of levels node < length path) [
       | inl below ↦ below
       | inr past ↦
@@ -119,23 +119,23 @@ trail_goes_on net rows xs power levels sink next path node state differ =
     ]
 
 -- the parts of a path at its first use
-pub record AtFirst (net : NetValue) (rows : Rows) (xs : List ℕ) (power : ℕ) (levels : List ℕ) (sink : ℕ) (next : List ℕ) (path : List Use) (node : ℕ) (u : Use) : Type 0 where
+pub record AtFirst (net : NetValue) (adjacency : Adjacency) (xs : List ℕ) (power : ℕ) (levels : List ℕ) (sink : ℕ) (next : List ℕ) (path : List Use) (node : ℕ) (u : Use) : Type 0 where
   pub known : u.pipe < length net.pipes
   pub level : level_of levels (end_of net.pipes u) ≡ level_of levels node + 1
-  pub pointed : get_or next (end_of net.pipes u) 0 < length (row_of rows (end_of net.pipes u))
+  pub pointed : get_or next (end_of net.pipes u) 0 < length (row_of adjacency (end_of net.pipes u))
   pub trail : IsTrail net.pipes xs power levels (end_of net.pipes u) sink (drop (level_of levels node + 1) path)
-  pub rest : Pointed net.pipes rows next (drop (level_of levels node + 1) path)
+  pub rest : Pointed net.pipes adjacency next (drop (level_of levels node + 1) path)
 
 pub at_first :
-    (net : NetValue) (rows : Rows) (xs : List ℕ) (power : ℕ) (levels : List ℕ) (sink : ℕ) (next : List ℕ) (path : List Use) (node : ℕ) →
-    Trailing net rows xs power levels sink next path node → level_of levels node < length path →
-    AtFirst net rows xs power levels sink next path node (get_or path (level_of levels node) no_use)
-at_first net rows xs power levels sink next path node state h =
+    (net : NetValue) (adjacency : Adjacency) (xs : List ℕ) (power : ℕ) (levels : List ℕ) (sink : ℕ) (next : List ℕ) (path : List Use) (node : ℕ) →
+    Trailing net adjacency xs power levels sink next path node → level_of levels node < length path →
+    AtFirst net adjacency xs power levels sink next path node (get_or path (level_of levels node) no_use)
+at_first net adjacency xs power levels sink next path node state h =
     let u = get_or path (level_of levels node) no_use in
     let rest = drop (level_of levels node + 1) path in
     let cut : drop (level_of levels node) path ≡ u ∷ rest = drop_more path (level_of levels node) no_use h in
     let trail = subst (λ us. IsTrail net.pipes xs power levels node sink us) cut state.trail in
-    let pointed = subst (λ us. Pointed net.pipes rows next us) cut state.pointed in
+    let pointed = subst (λ us. Pointed net.pipes adjacency next us) cut state.pointed in
     record {
       known = trail.leads.0;
       level = trail.rises.0;
@@ -151,36 +151,36 @@ at_first net rows xs power levels sink next path node state h =
 
 -- back to the node behind, whose pointer goes on
 pub trailing_up :
-    (net : NetValue) (rows : Rows) (xs : List ℕ) (power : ℕ) (levels : List ℕ) (sink : ℕ) (next : List ℕ) (path : List Use) (node : ℕ) →
-    IsNet net → length next ≡ net.nodes → Trailing net rows xs power levels sink next path node → level_of levels node < length path →
-    Trailing net rows xs power levels sink
-    (set (set next node (length (row_of rows node))) (end_of net.pipes (get_or path (level_of levels node) no_use))
-    (get_or (set next node (length (row_of rows node))) (end_of net.pipes (get_or path (level_of levels node) no_use)) 0 + 1))
+    (net : NetValue) (adjacency : Adjacency) (xs : List ℕ) (power : ℕ) (levels : List ℕ) (sink : ℕ) (next : List ℕ) (path : List Use) (node : ℕ) →
+    IsNet net → length next ≡ net.nodes → Trailing net adjacency xs power levels sink next path node → level_of levels node < length path →
+    Trailing net adjacency xs power levels sink
+    (set (set next node (length (row_of adjacency node))) (end_of net.pipes (get_or path (level_of levels node) no_use))
+    (get_or (set next node (length (row_of adjacency node))) (end_of net.pipes (get_or path (level_of levels node) no_use)) 0 + 1))
     path (end_of net.pipes (get_or path (level_of levels node) no_use))
-trailing_up net rows xs power levels sink next path node lawful sized state h =
+trailing_up net adjacency xs power levels sink next path node lawful sized state h =
     let u = get_or path (level_of levels node) no_use in
     let child = end_of net.pipes u in
-    let full = length (row_of rows node) in
+    let full = length (row_of adjacency node) in
     let next1 = set next node full in
-    let first = at_first net rows xs power levels sink next path node state h in
+    let first = at_first net adjacency xs power levels sink next path node state h in
     let sized1 : length next1 ≡ net.nodes = length-set next node full ∙ sized in
     let child_known : child < net.nodes = end_known u.back u.pipe first.known in
     let differ : child ≢ node =
     λ e. let same : level_of levels child ≡ level_of levels node = ap (λ n. level_of levels n) e in absurd (omega (arith, same, first.level)) in
     let stays : get_or next1 child 0 ≡ get_or next child 0 = get_or-set_other next node child full 0 differ in
-    let bounded1 = bounded_after net.nodes rows next node full (omega arith) state.bounded sized state.known in
+    let bounded1 = bounded_after net.nodes adjacency next node full (omega arith) state.bounded sized state.known in
     let rest = drop (level_of levels node + 1) path in
-    let pointed1 : Pointed net.pipes rows next1 rest =
-    pointed_after net.pipes rows levels next node full (level_of levels node + 1) rest (omega arith)
+    let pointed1 : Pointed net.pipes adjacency next1 rest =
+    pointed_after net.pipes adjacency levels next node full (level_of levels node + 1) rest (omega arith)
     (subst (λ k. Rises net.pipes levels k rest) first.level first.trail.rises) first.rest in
     record {
       known = child_known;
       low = omega (arith, first.level, h);
-      bounded = bounded_after net.nodes rows next1 child (get_or next1 child 0 + 1) (omega (arith, stays, first.pointed)) bounded1 sized1 child_known;
+      bounded = bounded_after net.nodes adjacency next1 child (get_or next1 child 0 + 1) (omega (arith, stays, first.pointed)) bounded1 sized1 child_known;
       trail = subst (λ k. IsTrail net.pipes xs power levels child sink (drop k path)) (sym first.level) first.trail;
       pointed =
-          subst (λ k. Pointed net.pipes rows (set next1 child (get_or next1 child 0 + 1)) (drop k path)) (sym first.level)
-          (pointed_after net.pipes rows levels next1 child (get_or next1 child 0 + 1) (level_of levels node + 1) rest (omega (arith, first.level))
+          subst (λ k. Pointed net.pipes adjacency (set next1 child (get_or next1 child 0 + 1)) (drop k path)) (sym first.level)
+          (pointed_after net.pipes adjacency levels next1 child (get_or next1 child 0 + 1) (level_of levels node + 1) rest (omega (arith, first.level))
           (subst (λ k. Rises net.pipes levels k rest) first.level first.trail.rises) pointed1);
     }
   where
@@ -190,11 +190,11 @@ trailing_up net rows xs power levels sink next path node lawful sized state h =
 
 -- each node's way stays where its pointer stops at the first good link
 pub ways_down :
-    (ps : List Pipe) (rows : Rows) (xs : List ℕ) (power : ℕ) (levels : List ℕ) (nodes source : ℕ) (next : List ℕ) (node place : ℕ) →
+    (ps : List Pipe) (adjacency : Adjacency) (xs : List ℕ) (power : ℕ) (levels : List ℕ) (nodes source : ℕ) (next : List ℕ) (node place : ℕ) →
     length next ≡ nodes → node < nodes →
-    ((k : ℕ) → get_or next node 0 ≤ k → k < place → ¬ IsGood ps xs power levels (level_of levels node) (link_at (row_of rows node) k)) →
-    HaveWays ps xs power levels rows nodes source next → HaveWays ps xs power levels rows nodes source (set next node place)
-ways_down ps rows xs power levels nodes source next node place sized known first ways v h r differ =
+    ((k : ℕ) → get_or next node 0 ≤ k → k < place → ¬ IsGood ps xs power levels (level_of levels node) (link_at (row_of adjacency node) k)) →
+    HaveWays ps xs power levels adjacency nodes source next → HaveWays ps xs power levels adjacency nodes source (set next node place)
+ways_down ps adjacency xs power levels nodes source next node place sized known first ways v h r differ =
     let way = ways v h r differ in
     record {
       place = way.place;
@@ -206,7 +206,7 @@ ways_down ps rows xs power levels nodes source next node place sized known first
                 elim (cases_lt way.place place) [
                   | inl before ↦
                       absurd (first way.place (subst (λ n. get_or next n 0 ≤ way.place) same way.behind) before
-                      (subst (λ n. IsGood ps xs power levels (level_of levels n) (link_at (row_of rows n) way.place)) same way.good))
+                      (subst (λ n. IsGood ps xs power levels (level_of levels n) (link_at (row_of adjacency n) way.place)) same way.good))
                   | inr behind ↦ omega (arith, mine, behind)
                 ]
             | inr other ↦ omega (arith, get_or-set_other next node v place 0 other, way.behind)
@@ -217,11 +217,11 @@ ways_down ps rows xs power levels nodes source next node place sized known first
 
 -- where each node has a way, no pointer reaches the end of its row
 pub ways_go_on :
-    (ps : List Pipe) (rows : Rows) (xs : List ℕ) (power : ℕ) (levels : List ℕ) (nodes source : ℕ) (next : List ℕ) (node : ℕ) →
-    HaveWays ps xs power levels rows nodes source next → node < nodes → IsReached levels node → node ≢ source →
-    ((k : ℕ) → get_or next node 0 ≤ k → k < length (row_of rows node) → ¬ IsGood ps xs power levels (level_of levels node) (link_at (row_of rows node) k)) →
+    (ps : List Pipe) (adjacency : Adjacency) (xs : List ℕ) (power : ℕ) (levels : List ℕ) (nodes source : ℕ) (next : List ℕ) (node : ℕ) →
+    HaveWays ps xs power levels adjacency nodes source next → node < nodes → IsReached levels node → node ≢ source →
+    ((k : ℕ) → get_or next node 0 ≤ k → k < length (row_of adjacency node) → ¬ IsGood ps xs power levels (level_of levels node) (link_at (row_of adjacency node) k)) →
     ⊥
-ways_go_on ps rows xs power levels nodes source next node ways known r differ none =
+ways_go_on ps adjacency xs power levels nodes source next node ways known r differ none =
     let way = ways node known r differ in none way.place way.behind way.within way.good
 
 -- what is left to try, in one number
@@ -262,13 +262,13 @@ found_at ps ps2 xs power levels level level2 row row2 from place ep el er found 
     (subst (λ (n : ℕ). FoundPlace ps xs power levels n row2 from place) el
     (subst (λ (r : List Link). FoundPlace ps xs power levels level r from place) er found))
 
-pub row_short : (rows : Rows) (v : ℕ) → length (row_of rows v) ≤ length rows.links.items
+pub row_short : (adjacency : Adjacency) (v : ℕ) → length (row_of adjacency v) ≤ length adjacency.links.items
 unfolding row_of
-row_short rows v =
+row_short adjacency v =
     omega (
       arith,
-      length-take (get_or rows.starts.items (v + 1) 0 - get_or rows.starts.items v 0) (drop (get_or rows.starts.items v 0) rows.links.items),
-      length-drop (get_or rows.starts.items v 0) rows.links.items,
+      length-take (get_or adjacency.starts.items (v + 1) 0 - get_or adjacency.starts.items v 0) (drop (get_or adjacency.starts.items v 0) adjacency.links.items),
+      length-drop (get_or adjacency.starts.items v 0) adjacency.links.items,
     )
 
 pub try_set :
@@ -293,15 +293,15 @@ try_raise limit next v y u path l l2 h up hu bound low =
 
 -- after a search each node that was reached has a way, from the start of its row on
 pub ways_begin :
-    (net : NetValue) (rows : Rows) (xs : List ℕ) (power : ℕ) (levels : List ℕ) (source sink : ℕ) (next : List ℕ) (found : Bool) →
-    AreRows net rows → IsSearched net.pipes xs power false source sink levels found → ((v : ℕ) → get_or next v 0 ≡ 0) →
-    HaveWays net.pipes xs power levels rows net.nodes source next
-ways_begin net rows xs power levels source sink next found are searched clear v h r differ =
+    (net : NetValue) (adjacency : Adjacency) (xs : List ℕ) (power : ℕ) (levels : List ℕ) (source sink : ℕ) (next : List ℕ) (found : Bool) →
+    IsAdjacency net adjacency → IsSearched net.pipes xs power false source sink levels found → ((v : ℕ) → get_or next v 0 ≡ 0) →
+    HaveWays net.pipes xs power levels adjacency net.nodes source next
+ways_begin net adjacency xs power levels source sink next found are searched clear v h r differ =
     let p = searched.parents v r differ in
     let at : start_of net.pipes (use_of p.pipe (not p.back)) ≡ v = turns_start net.pipes p.pipe p.back ∙ p.ends in
-    let linked : IsLinked net.pipes (row_of rows v) p.pipe (not p.back) =
-    subst (λ n. IsLinked net.pipes (row_of rows n) p.pipe (not p.back)) at (are.complete p.pipe (not p.back) p.known) in
-    let link = link_at (row_of rows v) linked.place in
+    let linked : IsLinked net.pipes (row_of adjacency v) p.pipe (not p.back) =
+    subst (λ n. IsLinked net.pipes (row_of adjacency n) p.pipe (not p.back)) at (are.complete p.pipe (not p.back) p.known) in
+    let link = link_at (row_of adjacency v) linked.place in
     let is = are.links v linked.place h linked.within in
     let far : link.far ≡ start_of net.pipes (use_of p.pipe p.back) =
     sym is.far ∙ (ap (λ n. end_of net.pipes (use_of n link.back)) linked.pipe ∙ (ap (λ b. end_of net.pipes (use_of p.pipe b)) linked.way ∙ turns_end net.pipes p.pipe p.back)) in

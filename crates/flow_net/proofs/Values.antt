@@ -6,6 +6,7 @@ use Rattle.flow_net.specs.Nets.{NetValue, IsNet, pipe_at}
 use Rattle.flow_net.specs.Flows.{amount_on, out_of, into, cost, IsFlow, IsSide, IsTight}
 use Rattle.flow_net.specs.Pushes.{part, left_across}
 use Rattle.flow_net.specs.Values.{out_at, into_at, CarriesAtMost, SidesBound, TightSidesAreCarried}
+use Rattle.flow_net.proofs.Sums.{amount_on-cons}
 use Rattle.flow_net.proofs.Carrying.{left_across-out}
 use Rattle.flow_net.proofs.Cutting.{tight_none}
 
@@ -39,7 +40,16 @@ ends_more : (end : Pipe → ℕ) (s : ℕ → Bool) (n : ℕ) (ps : List Pipe) (
 ends_more end s n [] xs = omega (arith, part_none (s n))
 ends_more end s n (p ∷ ps) [] = omega (arith, part_none (s n))
 ends_more end s n (p ∷ ps) (x ∷ xs) =
-    omega (arith, one_more s n (end p) x, ends_more end s n ps xs, part_add (s n) (cond (eqb (end p) n) x 0) (amount_on (λ q. eqb (end q) n) ps xs))
+    let last = ap (λ (m : ℕ). part (s n) m) (amount_on-cons (λ q. eqb (end q) n) p ps x xs) in
+    omega (
+      arith,
+      one_more s n (end p) x,
+      ends_more end s n ps xs,
+      part_add (s n) (cond (eqb (end p) n) x 0) (amount_on (λ q. eqb (end q) n) ps xs),
+      amount_on-cons (λ q. below s (n + 1) (end q)) p ps x xs,
+      amount_on-cons (λ q. below s n (end q)) p ps x xs,
+      last,
+    )
 
 none_below : (s : ℕ → Bool) (u x : ℕ) → cond (below s 0 u) x 0 ≡ 0
 unfolding below
@@ -52,7 +62,8 @@ none_below s u x = rw (le-ltb u 0 (omega arith)) (at (s u))
 ends_none : (end : Pipe → ℕ) (s : ℕ → Bool) (ps : List Pipe) (xs : List ℕ) → amount_on (λ p. below s 0 (end p)) ps xs ≡ 0
 ends_none end s [] xs = refl
 ends_none end s (p ∷ ps) [] = refl
-ends_none end s (p ∷ ps) (x ∷ xs) = omega (arith, none_below s (end p) x, ends_none end s ps xs)
+ends_none end s (p ∷ ps) (x ∷ xs) =
+    omega (arith, amount_on-cons (λ q. below s 0 (end q)) p ps x xs, none_below s (end p) x, ends_none end s ps xs)
 
 all_below : (s : ℕ → Bool) (n u : ℕ) → u < n → below s n u ≡ s u
 unfolding below
@@ -68,7 +79,13 @@ ends_all end s n [] xs h = refl
 ends_all end s n (p ∷ ps) [] h = refl
 ends_all end s n (p ∷ ps) (x ∷ xs) h =
     let one : cond (below s n (end p)) x 0 ≡ cond (s (end p)) x 0 = ap (λ (c : Bool). cond c x 0) (all_below s n (end p) (h 0 (omega arith))) in
-    omega (arith, one, ends_all end s n ps xs (λ i l. h (suc i) (omega (arith, l))))
+    omega (
+      arith,
+      amount_on-cons (λ q. below s n (end q)) p ps x xs,
+      amount_on-cons (λ q. s (end q)) p ps x xs,
+      one,
+      ends_all end s n ps xs (λ i l. h (suc i) (omega (arith, l))),
+    )
 
 -- the same, of a node that is in the bound
 part_next : (a n d : ℕ) → part (ltb a (n + 1)) d ≡ part (ltb a n) d + part (eqb a n) d

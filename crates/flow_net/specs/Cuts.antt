@@ -1,12 +1,19 @@
-use Rattle.std.specs.Prelude.{◌≡◌, ℕ, ◌<◌, Bool, true, not, if◌then◌else◌, List, length}
-use Rattle.flow_net.specs.declared.cuts.FlowCut.{FlowCut}
-use Rattle.flow_net.specs.Nets.{NetValue}
+use Rattle.std.specs.Prelude.{◌≡◌, ℕ, ◌<◌, Bool, true, not, if◌then◌else◌, List, length, replicate}
+use Rattle.flow_net.specs.declared.cuts.Prepared.{Prepared}
+use Rattle.flow_net.specs.Nets.{NetValue, IsNet}
+use Rattle.flow_net.specs.Links.{IsAdjacency}
+use Rattle.flow_net.specs.Runs.{IsScratchFor}
 use Rattle.flow_net.specs.Flows.{IsLeastCut, IsTight, is_in}
 
--- each side has a place for each of so many nodes
-pub record IsSized (nodes : ℕ) (cut : FlowCut) : Type 0 where
-  pub least : length cut.least.items ≡ nodes
-  pub greatest : length cut.greatest.items ≡ nodes
+-- what a call begins with: nothing on any pipe, and a place for each node in each list
+pub record IsPrepared (net : NetValue) (prepared : Prepared) : Type 0 where
+  pub lawful : IsNet net
+  pub adjacency : IsAdjacency net prepared.adjacency
+  pub places : IsScratchFor net.nodes prepared.run.scratch
+  pub none : prepared.run.filling.pushes ≡ 0
+  pub empty : prepared.run.filling.amounts ≡ replicate (length net.pipes) 0
+  pub least : length prepared.least.items ≡ net.nodes
+  pub greatest : length prepared.greatest.items ≡ net.nodes
 
 -- the smallest and the largest source side of a least cut, both tight
 pub record AreSides (net : NetValue) (source sink : ℕ) (amounts : List ℕ) (least greatest : List Bool) : Type 0 where

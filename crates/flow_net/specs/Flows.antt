@@ -1,12 +1,11 @@
-use Rattle.std.specs.Prelude.{◌≡◌, ◌≢◌, ℕ, ◌+◌, ◌<◌, ◌≤◌, Bool, true, false, not, ◌&&◌, ◌==◌, if◌then◌else◌, List, [], ◌∷◌, length, map, slice_index, slice_index_or}
+use Rattle.std.specs.Prelude.{◌≡◌, ◌≢◌, ℕ, ◌<◌, ◌≤◌, Bool, true, false, not, ◌&&◌, ◌==◌, if◌then◌else◌, List, length, sum_by, slice_index, slice_index_or}
+use Rattle.std.specs.List.{zip}
 use Rattle.flow_net.specs.declared.pipes.Pipe.{Pipe}
 use Rattle.flow_net.specs.Nets.{NetValue, pipe_at}
 
--- the sum of the amounts on the pipes that pass a test
-abbrev pub amount_on : (Pipe → Bool) → List Pipe → List ℕ → ℕ
-amount_on test [] xs = 0
-amount_on test (p ∷ ps) [] = 0
-amount_on test (p ∷ ps) (x ∷ xs) = (if test p then x else 0) + amount_on test ps xs
+-- the sum of the amounts on those things, as pipes, that pass a test; each has the amount at its place
+abbrev pub amount_on : {X : Type 0} → (X → Bool) → List X → List ℕ → ℕ
+amount_on {X} test xs amounts = sum_by (λ (p : X × ℕ). if test p.0 then p.1 else 0) (zip xs amounts)
 
 -- a set of nodes is a test; what flows on the pipes from its nodes, and on those to its nodes
 abbrev pub out_of : (ℕ → Bool) → List Pipe → List ℕ → ℕ
@@ -15,9 +14,13 @@ out_of s pipes amounts = amount_on (λ p. s p.from) pipes amounts
 abbrev pub into : (ℕ → Bool) → List Pipe → List ℕ → ℕ
 into s pipes amounts = amount_on (λ p. s p.to) pipes amounts
 
+-- what a pipe costs a set's cut: its room, where it leaves the set
+abbrev pub pipe_cost : (ℕ → Bool) → Pipe → ℕ
+pipe_cost s p = if s p.from && not (s p.to) then p.room else 0
+
 -- what a set's cut costs: the rooms of the pipes that leave it
 abbrev pub cost : (ℕ → Bool) → List Pipe → ℕ
-cost s pipes = amount_on (λ p. s p.from && not (s p.to)) pipes (map (λ p. p.room) pipes)
+cost s pipes = sum_by (pipe_cost s) pipes
 
 -- the flow keeps within the rooms, and as much flows into each node but source and sink as out of it
 pub record IsFlow (net : NetValue) (source sink : ℕ) (amounts : List ℕ) : Type 0 where

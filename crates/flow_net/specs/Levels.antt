@@ -1,8 +1,8 @@
 use Rattle.std.specs.Prelude.{◌≡◌, ◌≢◌, ℕ, ◌+◌, ◌<◌, ◌≤◌, ◌⊎◌, Bool, true, false, not, nat_lt, if◌then◌else◌, List, length, slice_index, slice_index_or, count_by}
 use Rattle.flow_net.specs.declared.pipes.Pipe.{Pipe}
 use Rattle.flow_net.specs.declared.links.Link.{Link}
-use Rattle.flow_net.specs.Paths.{left_on, start_of, end_of}
-use Rattle.flow_net.specs.Links.{use_of, link_at}
+use Rattle.flow_net.specs.Paths.{use_of, left_on, start_of, end_of}
+use Rattle.flow_net.specs.Links.{link_at}
 
 -- the level of a node that no search reached
 abbrev pub unreached : ℕ

@@ -1,7 +1,11 @@
-use Rattle.std.specs.Prelude.{◌≡◌, ◌≢◌, ℕ, ◌+◌, ◌-◌, ◌<◌, ◌≤◌, if◌then◌else◌, List, [], ◌∷◌, length, slice_index, slice_set, AllPairs}
+use Rattle.std.specs.Prelude.{◌≡◌, ◌≢◌, ℕ, ◌+◌, ◌-◌, ◌<◌, ◌≤◌, Bool, true, false, if◌then◌else◌, List, [], ◌∷◌, length, slice_index, slice_set, All, AllPairs, Contains}
 use Rattle.flow_net.specs.declared.pipes.Pipe.{Pipe}
 use Rattle.flow_net.specs.declared.pipes.Use.{Use}
 use Rattle.flow_net.specs.Nets.{pipe_at}
+
+-- a use of a pipe, by its number and whether it is back
+abbrev pub use_of : ℕ → Bool → Use
+use_of i back = record { pipe = i; back = back }
 
 -- the node at which a use begins
 abbrev pub start_of : List Pipe → Use → ℕ
@@ -38,6 +42,14 @@ pub record LeadsOn (pipes : List Pipe) (path : List Use) : Type 0 where
 abbrev pub HaveLeft : List Pipe → List ℕ → ℕ → List Use → Type 0
 HaveLeft pipes amounts least [] = Unit {0}
 HaveLeft pipes amounts least (u ∷ us) = (least ≤ left_on pipes amounts u) × HaveLeft pipes amounts least us
+
+-- after a push along a path each pipe that it uses forward carries the amount more, each that it uses back the amount
+-- less, and each other what it did
+pub record IsPushed (amount : ℕ) (path : List Use) (old new : List ℕ) : Type 0 where
+  pub each : length new ≡ length old
+  pub forward : (i : ℕ) → Contains path (use_of i false) → slice_index new i ≡ slice_index old i + amount
+  pub back : (i : ℕ) → Contains path (use_of i true) → slice_index new i + amount ≡ slice_index old i
+  pub others : (i : ℕ) → All (λ u. u.pipe ≢ i) path → slice_index new i ≡ slice_index old i
 
 -- the amounts after one use carried d more
 abbrev pub used : ℕ → List ℕ → Use → List ℕ

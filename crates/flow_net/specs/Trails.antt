@@ -2,9 +2,9 @@ use Rattle.std.specs.Prelude.{◌≡◌, ◌≢◌, ℕ, ◌+◌, ◌<◌, ◌�
 use Rattle.flow_net.specs.declared.pipes.Pipe.{Pipe}
 use Rattle.flow_net.specs.declared.pipes.Use.{Use}
 use Rattle.flow_net.specs.declared.links.Link.{Link}
-use Rattle.flow_net.specs.declared.links.Rows.{Rows}
-use Rattle.flow_net.specs.Paths.{left_on, end_of, IsPath, HaveLeft}
-use Rattle.flow_net.specs.Links.{use_of, link_at, row_of}
+use Rattle.flow_net.specs.declared.links.Adjacency.{Adjacency}
+use Rattle.flow_net.specs.Paths.{use_of, left_on, end_of, IsPath, HaveLeft}
+use Rattle.flow_net.specs.Links.{link_at, row_of}
 use Rattle.flow_net.specs.Levels.{level_of, IsReached}
 
 -- the use against a link leads from one level below with enough left
@@ -24,8 +24,8 @@ pub record IsTrail (pipes : List Pipe) (amounts : List ℕ) (power : ℕ) (level
   pub left : HaveLeft pipes amounts power path
 
 -- no pointer is past the end of its row
-abbrev pub AreBounded : ℕ → Rows → List ℕ → Type 0
-AreBounded nodes rows next = (v : ℕ) → v < nodes → slice_index next v ≤ length (row_of rows v)
+abbrev pub AreBounded : ℕ → Adjacency → List ℕ → Type 0
+AreBounded nodes adjacency next = (v : ℕ) → v < nodes → slice_index next v ≤ length (row_of adjacency v)
 
 -- a link from the pointer on by which a node can be reached
 pub record HasWay (pipes : List Pipe) (amounts : List ℕ) (power : ℕ) (levels : List ℕ) (row : List Link) (level from : ℕ) : Type 0 where
@@ -35,10 +35,10 @@ pub record HasWay (pipes : List Pipe) (amounts : List ℕ) (power : ℕ) (levels
   pub good : IsGood pipes amounts power levels level (link_at row place)
 
 -- each node that was reached has such a link
-abbrev pub HaveWays : List Pipe → List ℕ → ℕ → List ℕ → Rows → ℕ → ℕ → List ℕ → Type 0
-HaveWays pipes amounts power levels rows nodes source next =
+abbrev pub HaveWays : List Pipe → List ℕ → ℕ → List ℕ → Adjacency → ℕ → ℕ → List ℕ → Type 0
+HaveWays pipes amounts power levels adjacency nodes source next =
     (v : ℕ) → v < nodes → IsReached levels v → v ≢ source →
-    HasWay pipes amounts power levels (row_of rows v) (level_of levels v) (slice_index next v)
+    HasWay pipes amounts power levels (row_of adjacency v) (level_of levels v) (slice_index next v)
 
 abbrev pub use_at : List Use → ℕ → Use
 use_at path k = slice_index_or path k (record { pipe = 0; back = false })

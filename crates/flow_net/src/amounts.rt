@@ -1,6 +1,6 @@
 // Amounts on the pipes of a net, changed by pushes alone.
-ghost use Rattle.std.specs.Prelude.{◌≡◌, ℕ, ◌+◌, ◌^◌, ◌<◌, ◌≤◌, length, replicate, slice_index, IfOk};
-ghost use Rattle.flow_net.specs.Paths.{LeadsOn, HaveLeft, pushed, left_on};
+ghost use Rattle.std.specs.Prelude.{◌≡◌, ◌≢◌, ℕ, ◌+◌, ◌^◌, ◌<◌, ◌≤◌, true, false, All, Contains, length, replicate, slice_index, IfOk};
+ghost use Rattle.flow_net.specs.Paths.{use_of, LeadsOn, HaveLeft, pushed, left_on};
 ghost use Rattle.flow_net.specs.Moves.{IsReady};
 
 use crate::counter::Steps;
@@ -31,9 +31,9 @@ fn move_along(path: &[Use], amount: u128, amounts: &mut [u128])
     requires { IsReady amount amounts.old path.now }
     ensures { amounts.new ≡ pushed amount amounts.old path.now }
 {
-    for step in path {
-        let pipe = step.pipe as usize;
-        if step.back {
+    for each in path {
+        let pipe = each.pipe as usize;
+        if each.back {
             amounts[pipe] -= amount;
         } else {
             amounts[pipe] += amount;
@@ -66,15 +66,21 @@ impl Filling {
         self.pushes
     }
 
-    /// Carries an amount more along a path from one node to another that meets no node twice: on each pipe used
-    /// forward it adds the amount, and from each used back it takes it. This is one push and one step.
+    /// Carries an amount more along a path from one node to another that meets no node twice: each pipe that the path
+    /// uses forward gains the amount, each that it uses back loses it. This is one push and one step.
     pub fn push<L: Ledger>(&mut self, net: &Net, path: &[Use], amount: u128, steps: &mut Steps<L>)
         requires of_net { length self.old.amounts ≡ length net.now.pipes }
         requires few { self.old.pushes < 2 ^ 62 }
         requires path { LeadsOn net.now.pipes path.now }
         requires some { 1 ≤ amount }
         requires left { HaveLeft net.now.pipes self.old.amounts amount path.now }
-        ensures amounts { self.new.amounts ≡ pushed amount self.old.amounts path.now }
+        ensures each { length self.new.amounts ≡ length self.old.amounts }
+        ensures forward { (i : ℕ) → Contains path.now (use_of i false) →
+            slice_index self.new.amounts i ≡ slice_index self.old.amounts i + amount }
+        ensures back { (i : ℕ) → Contains path.now (use_of i true) →
+            slice_index self.new.amounts i + amount ≡ slice_index self.old.amounts i }
+        ensures others { (i : ℕ) → All (λ u. u.pipe ≢ i) path.now →
+            slice_index self.new.amounts i ≡ slice_index self.old.amounts i }
         ensures pushes { self.new.pushes ≡ self.old.pushes + 1 }
         ensures step { steps.new ≡ steps.old + 1 }
     {
@@ -87,15 +93,15 @@ impl Filling {
 }
 
 /// How much more a use can carry.
-pub(crate) fn left(pipes: &[Pipe], filling: &Filling, step: Use) -> u128
-    requires pipe { step.pipe < length pipes.now }
+pub(crate) fn left(pipes: &[Pipe], filling: &Filling, along: Use) -> u128
+    requires pipe { along.pipe < length pipes.now }
     requires of_net { length filling.now.amounts ≡ length pipes.now }
-    ensures { result ≡ left_on pipes.now filling.now.amounts step }
+    ensures { result ≡ left_on pipes.now filling.now.amounts along }
 {
-    let amount = filling.amount(step.pipe);
-    if step.back {
+    let amount = filling.amount(along.pipe);
+    if along.back {
         amount
     } else {
-        pipes[step.pipe as usize].room.saturating_sub(amount)
+        pipes[along.pipe as usize].room.saturating_sub(amount)
     }
 }

@@ -1,22 +1,21 @@
 // Greatest flows with both sides of a least cut.
 ghost use Rattle.std.specs.Prelude.{◌≡◌, ◌≢◌, ℕ, ◌+◌, ◌-◌, ◌*◌, ◌^◌, ◌<◌, ◌≤◌, Bool, true, false, List, length, replicate, IfOk, OnErr};
-ghost use Rattle.flow_net.specs.Nets.{IsNet, pipe_at};
-ghost use Rattle.flow_net.specs.Links.{AreRows};
-ghost use Rattle.flow_net.specs.Flows.{IsFlow, IsLeastCut, IsTight, AreRoomsBelow, is_in};
-ghost use Rattle.flow_net.specs.Levels.{IsSearched, reached};
-ghost use Rattle.flow_net.specs.Pushes.{IsCarried};
-ghost use Rattle.flow_net.specs.Runs.{AreEnds, HasRoom};
+ghost use Rattle.flow_net.specs.Nets.{IsNet};
+ghost use Rattle.flow_net.specs.Flows.{IsFlow, AreRoomsBelow, is_in};
+ghost use Rattle.flow_net.specs.Levels.{reached};
+ghost use Rattle.flow_net.specs.Runs.{IsProblem, IsScratchFor, IsRun, HasLevels};
 ghost use Rattle.flow_net.specs.Values.{CarriesAtMost};
-ghost use Rattle.flow_net.specs.Cuts.{AreSides, IsSized, chosen};
+ghost use Rattle.flow_net.specs.Cuts.{AreSides, IsPrepared, chosen};
 
 use crate::amounts::Filling;
 use crate::counter::Steps;
-use crate::ends::Ends;
 use crate::levels::{Sought, UNREACHED, search};
-use crate::links::Rows;
+use crate::links::Adjacency;
 use crate::network::Net;
 use crate::phases::begin;
 use crate::powers::powers;
+use crate::problem::Problem;
+use crate::run::Run;
 use crate::scratch::Scratch;
 use seed_model::NoMemory;
 use std::alloc::Global;
@@ -30,6 +29,31 @@ pub struct FlowCut {
     pub greatest: Vec<bool>,
 }
 
+/// All the memory of a call: the links at each node, nothing on any pipe, and a place for each node in each list.
+#[derive(Drop)]
+struct Prepared {
+    adjacency: Adjacency,
+    run: Run,
+    least: Vec<bool>,
+    greatest: Vec<bool>,
+}
+
+/// Takes the memory of a call.
+fn prepare(alloc: Global, net: &Net) -> Result<Prepared, NoMemory>
+    ensures { IfOk result (λ prepared. IsPrepared net.now prepared) }
+{
+    let nodes = net.nodes() as usize;
+    let mut scratch = Scratch::of(alloc, nodes)?;
+    let adjacency = Adjacency::of(alloc, net, &mut scratch.next)?;
+    let filling = Filling::empty(alloc, net)?;
+    Ok(Prepared {
+        adjacency,
+        run: Run { filling, scratch },
+        least: vec![in alloc; false; nodes]?,
+        greatest: vec![in alloc; false; nodes]?,
+    })
+}
+
 /// Notes which nodes were reached, or which were not.
 fn note_side(levels: &[u32], which: bool, side: &mut [bool])
     requires { length side.old ≡ length levels.now }
@@ -40,106 +64,75 @@ fn note_side(levels: &[u32], which: bool, side: &mut [bool])
     }
 }
 
-impl FlowCut {
-    /// Nothing on any pipe, and sides without a node.
-    fn empty(alloc: Global, net: &Net) -> Result<FlowCut, NoMemory>
-        ensures amounts { IfOk result (λ cut. cut.flow.amounts ≡ replicate (length net.now.pipes) 0) }
-        ensures pushes { IfOk result (λ cut. cut.flow.pushes ≡ 0) }
-        ensures sized { IfOk result (λ cut. IsSized net.now.nodes cut) }
-    {
-        let nodes = net.nodes() as usize;
-        Ok(FlowCut {
-            flow: Filling::empty(alloc, net)?,
-            least: vec![in alloc; false; nodes]?,
-            greatest: vec![in alloc; false; nodes]?,
-        })
-    }
-}
-
 /// Pushes until no path is left: first along any paths, then in turns by powers of two.
-fn fill<L: Ledger>(
-    net: &Net,
-    rows: &Rows,
-    ends: Ends,
-    scratch: &mut Scratch,
-    filling: &mut Filling,
-    steps: &mut Steps<L>,
-)
-    requires rows { AreRows net.now rows.now }
-    requires ends { AreEnds net.now ends }
-    requires none { filling.old.pushes ≡ 0 }
-    requires few { length net.now.pipes ≤ 2 ^ 24 }
-    requires room { HasRoom net.now.nodes scratch.old }
-    requires carried { IsCarried net.now.pipes ends.source ends.sink filling.old.amounts }
-    ensures room { HasRoom net.now.nodes scratch.new }
-    ensures carried { IsCarried net.now.pipes ends.source ends.sink filling.new.amounts }
-    ensures upto { (k : ℕ) → AreRoomsBelow (2 ^ k) net.now.pipes →
-        filling.new.pushes ≤ 2 * length net.now.pipes * (k + 1) }
-    ensures steps { steps.new ≡ steps.old + filling.new.pushes }
-    ensures closed { IsSearched net.now.pipes filling.new.amounts 1 false
-        ends.source ends.sink scratch.new.levels.items false }
+fn fill<L: Ledger>(problem: &Problem, run: &mut Run, steps: &mut Steps<L>)
+    requires run { IsRun problem.now run.old }
+    requires none { run.old.filling.pushes ≡ 0 }
+    requires few { length problem.now.net.now.pipes ≤ 2 ^ 24 }
+    ensures run { IsRun problem.now run.new }
+    ensures upto { (k : ℕ) → AreRoomsBelow (2 ^ k) problem.now.net.now.pipes →
+        run.new.filling.pushes ≤ 2 * length problem.now.net.now.pipes * (k + 1) }
+    ensures steps { steps.new ≡ steps.old + run.new.filling.pushes }
+    ensures closed { HasLevels problem.now 1 run.new false }
 {
-    if begin(net, rows, ends, scratch, filling, steps) {
+    if begin(problem, run, steps) {
         return;
     }
-    powers(net, rows, ends, scratch, filling, steps);
+    powers(problem, run, steps);
 }
 
 /// Notes the two sides: what a search from the source reached, and what a search back from the sink does not reach.
-fn note_sides(net: &Net, rows: &Rows, ends: Ends, scratch: &mut Scratch, cut: &mut FlowCut)
-    requires lawful { IsNet net.now }
-    requires rows { AreRows net.now rows.now }
-    requires ends { AreEnds net.now ends }
-    requires room { HasRoom net.now.nodes scratch.old }
-    requires sized { IsSized net.now.nodes cut.old }
-    requires carried { IsCarried net.now.pipes ends.source ends.sink cut.old.flow.amounts }
-    requires closed { IsSearched net.now.pipes cut.old.flow.amounts 1 false
-        ends.source ends.sink scratch.old.levels.items false }
-    ensures flow { cut.new.flow ≡ cut.old.flow }
-    ensures sized { IsSized net.now.nodes cut.new }
-    ensures sides { AreSides net.now ends.source ends.sink
-        cut.new.flow.amounts cut.new.least.items cut.new.greatest.items }
+fn note_sides(problem: &Problem, run: &mut Run, least: &mut [bool], greatest: &mut [bool])
+    requires net { IsNet problem.now.net.now }
+    requires run { IsRun problem.now run.old }
+    requires levels { HasLevels problem.now 1 run.old false }
+    requires least { length least.old ≡ problem.now.net.now.nodes }
+    requires greatest { length greatest.old ≡ problem.now.net.now.nodes }
+    ensures filling { run.new.filling ≡ run.old.filling }
+    ensures sides { AreSides problem.now.net.now problem.now.source problem.now.sink
+        run.old.filling.amounts least.new greatest.new }
 {
-    let back = Ends {
-        source: ends.sink,
-        sink: ends.source,
+    let scratch = &mut run.scratch;
+    note_side(&scratch.levels, true, least);
+    let back = Problem {
+        source: problem.sink,
+        sink: problem.source,
+        ..*problem
     };
     let sought = Sought {
+        filling: &run.filling,
         power: 1,
         backward: true,
     };
-    let Scratch { levels, queue, .. } = scratch;
-    note_side(levels, true, &mut cut.least);
-    search(net, rows, &cut.flow, sought, back, levels, queue);
-    note_side(levels, false, &mut cut.greatest);
+    search(&back, &sought, &mut scratch.levels, &mut scratch.queue);
+    note_side(&scratch.levels, false, greatest);
 }
 
 /// Fills the net, and notes the two sides.
 fn solve<L: Ledger>(
-    net: &Net,
-    rows: &Rows,
-    ends: Ends,
-    scratch: &mut Scratch,
-    cut: &mut FlowCut,
+    problem: &Problem,
+    run: &mut Run,
+    least: &mut [bool],
+    greatest: &mut [bool],
     steps: &mut Steps<L>,
 )
-    requires lawful { IsNet net.now }
-    requires rows { AreRows net.now rows.now }
-    requires ends { AreEnds net.now ends }
-    requires none { cut.old.flow.pushes ≡ 0 }
-    requires empty { cut.old.flow.amounts ≡ replicate (length net.now.pipes) 0 }
-    requires room { HasRoom net.now.nodes scratch.old }
-    requires sized { IsSized net.now.nodes cut.old }
-    ensures flow { IsFlow net.now ends.source ends.sink cut.new.flow.amounts }
-    ensures sized { IsSized net.now.nodes cut.new }
-    ensures sides { AreSides net.now ends.source ends.sink
-        cut.new.flow.amounts cut.new.least.items cut.new.greatest.items }
-    ensures upto { (k : ℕ) → AreRoomsBelow (2 ^ k) net.now.pipes →
-        cut.new.flow.pushes ≤ 2 * length net.now.pipes * (k + 1) }
-    ensures steps { steps.new ≡ steps.old + cut.new.flow.pushes }
+    requires net { IsNet problem.now.net.now }
+    requires lawful { IsProblem problem.now }
+    requires places { IsScratchFor problem.now.net.now.nodes run.old.scratch }
+    requires none { run.old.filling.pushes ≡ 0 }
+    requires empty { run.old.filling.amounts ≡ replicate (length problem.now.net.now.pipes) 0 }
+    requires least { length least.old ≡ problem.now.net.now.nodes }
+    requires greatest { length greatest.old ≡ problem.now.net.now.nodes }
+    ensures flow { IsFlow problem.now.net.now problem.now.source problem.now.sink
+        run.new.filling.amounts }
+    ensures sides { AreSides problem.now.net.now problem.now.source problem.now.sink
+        run.new.filling.amounts least.new greatest.new }
+    ensures upto { (k : ℕ) → AreRoomsBelow (2 ^ k) problem.now.net.now.pipes →
+        run.new.filling.pushes ≤ 2 * length problem.now.net.now.pipes * (k + 1) }
+    ensures steps { steps.new ≡ steps.old + run.new.filling.pushes }
 {
-    fill(net, rows, ends, scratch, &mut cut.flow, steps);
-    note_sides(net, rows, ends, scratch, cut);
+    fill(problem, run, steps);
+    note_sides(problem, run, least, greatest);
 }
 
 /// A greatest flow from the source to the sink, and the smallest and the largest source side of a least cut. One step
@@ -160,27 +153,34 @@ pub fn max_flow<L: Ledger>(
     ensures most { IfOk result (λ cut. (other : List ℕ) → IsFlow net.now source sink other →
         CarriesAtMost net.now.pipes source other cut.flow.amounts) }
 
-    ensures least { IfOk result (λ cut. IsLeastCut net.now.pipes source sink (is_in cut.least.items)) }
-    ensures greatest { IfOk result (λ cut. IsLeastCut net.now.pipes source sink (is_in cut.greatest.items)) }
-    ensures smallest { IfOk result (λ cut. (s : ℕ → Bool) → IsLeastCut net.now.pipes source sink s →
-        (v : ℕ) → is_in cut.least.items v ≡ true → s v ≡ true) }
-    ensures largest { IfOk result (λ cut. (s : ℕ → Bool) → IsLeastCut net.now.pipes source sink s →
-        (v : ℕ) → v < net.now.nodes → s v ≡ true → is_in cut.greatest.items v ≡ true) }
+    ensures sides { IfOk result (λ cut. AreSides net.now source sink
+        cut.flow.amounts cut.least.items cut.greatest.items) }
     ensures least_nodes { IfOk result (λ cut. length cut.least.items ≡ net.now.nodes) }
     ensures greatest_nodes { IfOk result (λ cut. length cut.greatest.items ≡ net.now.nodes) }
-    ensures least_tight { IfOk result (λ cut. IsTight (is_in cut.least.items) net.now.pipes cut.flow.amounts) }
-    ensures greatest_tight { IfOk result (λ cut. IsTight (is_in cut.greatest.items) net.now.pipes cut.flow.amounts) }
 
     ensures bound { (k : ℕ) → AreRoomsBelow (2 ^ k) net.now.pipes →
         steps.new ≤ steps.old + 2 * length net.now.pipes * (k + 1) }
     ensures pushes { IfOk result (λ cut. steps.new ≡ steps.old + cut.flow.pushes) }
     ensures err { OnErr result (steps.new ≡ steps.old) }
 {
-    let nodes = net.nodes() as usize;
-    let mut scratch = Scratch::of(alloc, nodes)?;
-    let rows = Rows::of(alloc, net, &mut scratch.next)?;
-    let mut cut = FlowCut::empty(alloc, net)?;
-    let ends = Ends { source, sink };
-    solve(net, &rows, ends, &mut scratch, &mut cut, steps);
-    Ok(cut)
+    let prepared = prepare(alloc, net)?;
+    let Prepared {
+        adjacency,
+        mut run,
+        mut least,
+        mut greatest,
+    } = prepared;
+    let problem = Problem {
+        net,
+        adjacency: &adjacency,
+        source,
+        sink,
+    };
+    solve(&problem, &mut run, &mut least, &mut greatest, steps);
+    let Run { filling: flow, .. } = run;
+    Ok(FlowCut {
+        flow,
+        least,
+        greatest,
+    })
 }

@@ -4,7 +4,6 @@
 pub mod amounts;
 pub mod counter;
 pub mod cuts;
-mod ends;
 pub mod laws;
 mod levels;
 mod links;
@@ -12,6 +11,8 @@ pub mod network;
 mod phases;
 pub mod pipes;
 mod powers;
+mod problem;
+mod run;
 mod scratch;
 mod trails;
 
@@ -21,6 +22,3 @@ pub use cuts::{FlowCut, max_flow};
 pub use laws::flow_laws;
 pub use network::Net;
 pub use pipes::{Pipe, Use};
-
-#[cfg(test)]
-mod tests;

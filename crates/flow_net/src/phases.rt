@@ -1,21 +1,17 @@
 // Many pushes from one search.
 ghost use Rattle.std.specs.Prelude.{◌≡◌, ◌≢◌, ℕ, ◌+◌, ◌-◌, ◌*◌, ◌^◌, ◌<◌, ◌≤◌, Bool, true, false, length, slice_index, slice_index_or};
-ghost use Rattle.flow_net.specs.Nets.{IsNet, pipe_at};
 ghost use Rattle.flow_net.specs.Paths.{IsPath, LeadsOn, HaveLeft};
-ghost use Rattle.flow_net.specs.Links.{AreRows};
-ghost use Rattle.flow_net.specs.Levels.{IsSearched, level_of, unreached};
 ghost use Rattle.flow_net.specs.Pushes.{IsCarried, Augments};
-ghost use Rattle.flow_net.specs.Runs.{AreEnds, HasRoom};
-ghost use Rattle.flow_net.specs.Trails.{IsTrail, use_at};
+ghost use Rattle.flow_net.specs.Runs.{IsRun, HasLevels, GoesOn};
+ghost use Rattle.flow_net.specs.Trails.{use_at};
 
 use crate::amounts::{Filling, left};
 use crate::counter::Steps;
-use crate::ends::Ends;
 use crate::levels::{Sought, search};
-use crate::links::Rows;
 use crate::network::Net;
 use crate::pipes::{Pipe, Use};
-use crate::scratch::Scratch;
+use crate::problem::Problem;
+use crate::run::Run;
 use crate::trails::find_path;
 use std::sync::ledger::Ledger;
 
@@ -27,8 +23,8 @@ fn least_left(pipes: &[Pipe], filling: &Filling, path: &[Use]) -> u128
     ensures most { (w : ℕ) → w < 2 ^ 128 → HaveLeft pipes.now filling.now.amounts w path.now → w ≤ result }
 {
     let mut least = u128::MAX;
-    for step in path {
-        least = least.min(left(pipes, filling, *step));
+    for along in path {
+        least = least.min(left(pipes, filling, *along));
     }
     least
 }
@@ -61,111 +57,88 @@ fn rewind(next: &mut [u32])
     }
 }
 
+/// Finds the levels over uses with at least the power left, and says whether the sink has one.
+fn find_levels(problem: &Problem, power: u128, run: &mut Run) -> bool
+    requires run { IsRun problem.now run.old }
+    ensures run { IsRun problem.now run.new }
+    ensures filling { run.new.filling ≡ run.old.filling }
+    ensures levels { HasLevels problem.now power run.new result }
+{
+    let sought = Sought {
+        filling: &run.filling,
+        power,
+        backward: false,
+    };
+    let scratch = &mut run.scratch;
+    search(problem, &sought, &mut scratch.levels, &mut scratch.queue)
+}
+
 /// Pushes along paths of the levels until none is left or the pushes reach the limit.
-fn phase<L: Ledger>(
-    net: &Net,
-    rows: &Rows,
-    ends: Ends,
-    power: u128,
-    limit: u64,
-    scratch: &mut Scratch,
-    filling: &mut Filling,
-    steps: &mut Steps<L>,
-)
-    requires rows { AreRows net.now rows.now }
-    requires ends { AreEnds net.now ends }
+fn phase<L: Ledger>(problem: &Problem, power: u128, limit: u64, run: &mut Run, steps: &mut Steps<L>)
+    requires run { IsRun problem.now run.old }
+    requires levels { HasLevels problem.now power run.old true }
     requires power { 1 ≤ power }
     requires few { limit ≤ 2 ^ 62 }
-    requires left { filling.old.pushes < limit }
-    requires room { HasRoom net.now.nodes scratch.old }
-    requires searched { IsSearched net.now.pipes filling.old.amounts power false
-        ends.source ends.sink scratch.old.levels.items true }
-    requires carried { IsCarried net.now.pipes ends.source ends.sink filling.old.amounts }
-    ensures room { HasRoom net.now.nodes scratch.new }
-    ensures carried { IsCarried net.now.pipes ends.source ends.sink filling.new.amounts }
-    ensures augments { Augments net.now.pipes ends.source ends.sink power filling.old filling.new }
-    ensures more { filling.old.pushes < filling.new.pushes }
-    ensures upto { filling.new.pushes ≤ limit }
-    ensures steps { steps.new + filling.old.pushes ≡ steps.old + filling.new.pushes }
+    requires left { run.old.filling.pushes < limit }
+    ensures goes_on { GoesOn problem.now power run.old run.new steps.old steps.new }
+    ensures more { run.old.filling.pushes < run.new.filling.pushes }
+    ensures upto { run.new.filling.pushes ≤ limit }
 {
-    let levels: &[u32] = &scratch.levels;
-    let next: &mut [u32] = &mut scratch.next;
-    let path: &mut [Use] = &mut scratch.path;
-    let depth = levels[ends.sink as usize] as usize;
+    let filling = &mut run.filling;
+    let levels: &[u32] = &run.scratch.levels;
+    let next: &mut [u32] = &mut run.scratch.next;
+    let path: &mut [Use] = &mut run.scratch.path;
+    let depth = levels[problem.sink as usize] as usize;
     rewind(next);
-    while filling.pushes() < limit {
+    'paths: while filling.pushes() < limit {
         let path = &mut path[..depth];
-        if !find_path(net, rows, filling, power, ends, levels, next, path) {
+        let sought = Sought {
+            filling,
+            power,
+            backward: false,
+        };
+        if !find_path(problem, &sought, levels, next, path) {
             return;
         }
-        push_path(net, path, filling, steps);
+        push_path(problem.net, path, filling, steps);
     }
 }
 
 /// Searches and pushes over uses with at least the power left, until a search misses the sink, which it answers by
 /// true, or the pushes reach the limit.
 pub(crate) fn turn<L: Ledger>(
-    net: &Net,
-    rows: &Rows,
-    ends: Ends,
+    problem: &Problem,
     power: u128,
     limit: u64,
-    scratch: &mut Scratch,
-    filling: &mut Filling,
+    run: &mut Run,
     steps: &mut Steps<L>,
 ) -> bool
-    requires rows { AreRows net.now rows.now }
-    requires ends { AreEnds net.now ends }
+    requires run { IsRun problem.now run.old }
     requires power { 1 ≤ power }
     requires few { limit ≤ 2 ^ 62 }
-    requires left { filling.old.pushes ≤ limit }
-    requires room { HasRoom net.now.nodes scratch.old }
-    requires carried { IsCarried net.now.pipes ends.source ends.sink filling.old.amounts }
-    ensures room { HasRoom net.now.nodes scratch.new }
-    ensures carried { IsCarried net.now.pipes ends.source ends.sink filling.new.amounts }
-    ensures augments { Augments net.now.pipes ends.source ends.sink power filling.old filling.new }
-    ensures upto { filling.new.pushes ≤ limit }
-    ensures steps { steps.new + filling.old.pushes ≡ steps.old + filling.new.pushes }
-    ensures closed { result ≡ true →
-        IsSearched net.now.pipes filling.new.amounts power false ends.source ends.sink scratch.new.levels.items false }
-    ensures open { result ≡ false → limit ≤ filling.new.pushes }
+    requires left { run.old.filling.pushes ≤ limit }
+    ensures goes_on { GoesOn problem.now power run.old run.new steps.old steps.new }
+    ensures upto { run.new.filling.pushes ≤ limit }
+    ensures closed { result ≡ true → HasLevels problem.now power run.new false }
+    ensures open { result ≡ false → limit ≤ run.new.filling.pushes }
 {
-    let sought = Sought {
-        power,
-        backward: false,
-    };
-    while filling.pushes() < limit {
-        let Scratch { levels, queue, .. } = scratch;
-        if !search(net, rows, filling, sought, ends, levels, queue) {
+    'searches: while run.filling.pushes() < limit {
+        if !find_levels(problem, power, run) {
             return true;
         }
-        phase(net, rows, ends, power, limit, scratch, filling, steps);
+        phase(problem, power, limit, run, steps);
     }
     false
 }
 
 /// The first pushes, at most two for each pipe, along any paths. True says that no path is left.
-pub(crate) fn begin<L: Ledger>(
-    net: &Net,
-    rows: &Rows,
-    ends: Ends,
-    scratch: &mut Scratch,
-    filling: &mut Filling,
-    steps: &mut Steps<L>,
-) -> bool
-    requires rows { AreRows net.now rows.now }
-    requires ends { AreEnds net.now ends }
-    requires none { filling.old.pushes ≡ 0 }
-    requires room { HasRoom net.now.nodes scratch.old }
-    requires carried { IsCarried net.now.pipes ends.source ends.sink filling.old.amounts }
-    ensures room { HasRoom net.now.nodes scratch.new }
-    ensures carried { IsCarried net.now.pipes ends.source ends.sink filling.new.amounts }
-    ensures augments { Augments net.now.pipes ends.source ends.sink 1 filling.old filling.new }
-    ensures upto { filling.new.pushes ≤ 2 * length net.now.pipes }
-    ensures steps { steps.new ≡ steps.old + filling.new.pushes }
-    ensures closed { result ≡ true →
-        IsSearched net.now.pipes filling.new.amounts 1 false ends.source ends.sink scratch.new.levels.items false }
+pub(crate) fn begin<L: Ledger>(problem: &Problem, run: &mut Run, steps: &mut Steps<L>) -> bool
+    requires run { IsRun problem.now run.old }
+    requires none { run.old.filling.pushes ≡ 0 }
+    ensures goes_on { GoesOn problem.now 1 run.old run.new steps.old steps.new }
+    ensures upto { run.new.filling.pushes ≤ 2 * length problem.now.net.now.pipes }
+    ensures closed { result ≡ true → HasLevels problem.now 1 run.new false }
 {
-    let limit = 2 * net.pipes().len() as u64;
-    turn(net, rows, ends, 1, limit, scratch, filling, steps)
+    let limit = 2 * problem.net.pipes().len() as u64;
+    turn(problem, 1, limit, run, steps)
 }

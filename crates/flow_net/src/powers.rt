@@ -1,20 +1,14 @@
 // Turns by falling powers of two.
 ghost use Rattle.std.specs.Prelude.{◌≡◌, ◌≢◌, ℕ, ◌+◌, ◌-◌, ◌*◌, ◌^◌, ◌<◌, ◌≤◌, Bool, true, false, length};
-ghost use Rattle.flow_net.specs.Nets.{IsNet, pipe_at};
-ghost use Rattle.flow_net.specs.Links.{AreRows};
+ghost use Rattle.flow_net.specs.Nets.{pipe_at};
 ghost use Rattle.flow_net.specs.Flows.{AreRoomsBelow};
-ghost use Rattle.flow_net.specs.Levels.{IsSearched};
-ghost use Rattle.flow_net.specs.Pushes.{IsCarried, Augments};
-ghost use Rattle.flow_net.specs.Runs.{AreEnds, HasRoom};
+ghost use Rattle.flow_net.specs.Runs.{IsRun, HasLevels, GoesOn};
 
-use crate::amounts::Filling;
 use crate::counter::Steps;
-use crate::ends::Ends;
-use crate::links::Rows;
-use crate::network::Net;
 use crate::phases::turn;
 use crate::pipes::Pipe;
-use crate::scratch::Scratch;
+use crate::problem::Problem;
+use crate::run::Run;
 use std::sync::ledger::Ledger;
 
 /// The greatest room, or 0 without pipes.
@@ -55,34 +49,21 @@ fn turn_count(pipes: &[Pipe]) -> u32
 }
 
 /// Turns by powers of two, from the greatest room down to 1. At the end no path is left.
-pub(crate) fn powers<L: Ledger>(
-    net: &Net,
-    rows: &Rows,
-    ends: Ends,
-    scratch: &mut Scratch,
-    filling: &mut Filling,
-    steps: &mut Steps<L>,
-)
-    requires rows { AreRows net.now rows.now }
-    requires ends { AreEnds net.now ends }
-    requires few { filling.old.pushes ≤ 2 ^ 32 }
-    requires room { HasRoom net.now.nodes scratch.old }
-    requires carried { IsCarried net.now.pipes ends.source ends.sink filling.old.amounts }
-    ensures room { HasRoom net.now.nodes scratch.new }
-    ensures carried { IsCarried net.now.pipes ends.source ends.sink filling.new.amounts }
-    ensures augments { Augments net.now.pipes ends.source ends.sink 1 filling.old filling.new }
-    ensures upto { (k : ℕ) → 1 ≤ k → AreRoomsBelow (2 ^ k) net.now.pipes →
-        filling.new.pushes ≤ filling.old.pushes + 2 * length net.now.pipes * k }
-    ensures steps { steps.new + filling.old.pushes ≡ steps.old + filling.new.pushes }
-    ensures closed { IsSearched net.now.pipes filling.new.amounts 1 false
-        ends.source ends.sink scratch.new.levels.items false }
+pub(crate) fn powers<L: Ledger>(problem: &Problem, run: &mut Run, steps: &mut Steps<L>)
+    requires run { IsRun problem.now run.old }
+    requires few { run.old.filling.pushes ≤ 2 ^ 32 }
+    ensures goes_on { GoesOn problem.now 1 run.old run.new steps.old steps.new }
+    ensures upto { (k : ℕ) → 1 ≤ k → AreRoomsBelow (2 ^ k) problem.now.net.now.pipes →
+        run.new.filling.pushes ≤ run.old.filling.pushes + 2 * length problem.now.net.now.pipes * k }
+    ensures closed { HasLevels problem.now 1 run.new false }
 {
-    let count = net.pipes().len() as u64;
-    let mut turns = turn_count(net.pipes());
-    while turns > 0 {
+    let pipes = problem.net.pipes();
+    let count = pipes.len() as u64;
+    let mut turns = turn_count(pipes);
+    'turns: while turns > 0 {
         turns -= 1;
         let power = power_of_two(turns);
-        let limit = filling.pushes() + 2 * count + 1;
-        turn(net, rows, ends, power, limit, scratch, filling, steps);
+        let limit = run.filling.pushes() + 2 * count + 1;
+        turn(problem, power, limit, run, steps);
     }
 }

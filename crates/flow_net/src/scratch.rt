@@ -1,6 +1,6 @@
-// What a run works on.
+// Lists that a run writes.
 ghost use Rattle.std.specs.Prelude.{◌≡◌, ℕ, length, slice_index, IfOk};
-ghost use Rattle.flow_net.specs.Runs.{HasRoom};
+ghost use Rattle.flow_net.specs.Runs.{IsScratchFor};
 
 use crate::pipes::Use;
 use seed_model::NoMemory;
@@ -22,7 +22,7 @@ pub(crate) struct Scratch {
 impl Scratch {
     /// Lists for so many nodes, of zeros.
     pub fn of(alloc: Global, nodes: usize) -> Result<Scratch, NoMemory>
-        ensures room { IfOk result (λ made. HasRoom nodes made) }
+        ensures places { IfOk result (λ made. IsScratchFor nodes made) }
         ensures clear { IfOk result (λ made. (v : ℕ) → slice_index made.next.items v ≡ 0) }
     {
         let unused = Use {

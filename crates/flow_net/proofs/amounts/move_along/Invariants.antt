@@ -4,9 +4,9 @@ use Rattle.flow_net.specs.Moves.{IsReady}
 use Rattle.flow_net.proofs.amounts.move_along.Given as goal
 
 -- the uses that are left lead to the same amounts, and are still ready
-abbrev pub invariant-loop-step : goal.invariant-loop-step
-invariant-loop-step l =
+abbrev pub invariant-loop-each : goal.invariant-loop-each
+invariant-loop-each l =
     record {
-      total : pushed l.amount l.amounts (drop l.step-index l.path) ≡ pushed l.amount l.fn.amounts l.path;
-      ready : IsReady l.amount l.amounts (drop l.step-index l.path);
+      total : pushed l.amount l.amounts (drop l.each-index l.path) ≡ pushed l.amount l.fn.amounts l.path;
+      ready : IsReady l.amount l.amounts (drop l.each-index l.path);
     }

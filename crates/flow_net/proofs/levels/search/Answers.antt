@@ -4,55 +4,63 @@ use Rattle.flow_net.specs.declared.links.Link.{Link}
 use Rattle.flow_net.specs.declared.pipes.Pipe.{Pipe}
 use Rattle.flow_net.specs.Links.{link_at, row_of}
 use Rattle.flow_net.specs.Levels.{unreached, level_of, LeadsFar, IsNext, Spreads, IsQueue, IsReached}
-use Rattle.flow_net.proofs.Searching.{Searching, search_begins, search_step, searched_found}
+use Rattle.flow_net.proofs.Linking.{row_leads}
+use Rattle.flow_net.proofs.Searching.{Searching, search_begins, search_step, searched_found, searched_missed}
 use Rattle.flow_net.proofs.levels.search.Goals as goal
 use Rattle.flow_net.proofs.levels.search.Goals.{After-spread-count}
 
+pub spread-count-requires-clause-links : goal.spread-count-requires-clause-links
+spread-count-requires-clause-links c =
+    let node = get_or c.loop-head.queue c.loop-head.head 0 in
+    row_leads c.args.problem.now.net.now c.args.problem.now.adjacency.now node c.pipes-pipes.result.now c.row-row.result.now (length c.loop-head.levels)
+    c.pipes-pipes.ensures.lawful c.requires.lawful.links (c.loop-head.invariant.state.queue_is.queued c.loop-head.head c.loop-head-test.true).0 c.pipes-pipes.ensures.value c.row-row.ensures
+    c.loop-head.invariant.sized
+
 pub loop-head-init : goal.loop-head-init
 loop-head-init c =
-    let few : c.args.net.now.nodes < unreached = let l = c.pipes-pipes.ensures.lawful.few_nodes in omega (arith, l) in
+    let few : c.args.problem.now.net.now.nodes < unreached = let l = c.pipes-pipes.ensures.lawful.few_nodes in omega (arith, l) in
     record {
       state =
-          search_begins c.args.net.now.pipes c.args.filling.now.amounts c.args.sought.power c.args.sought.backward c.args.ends.source c.args.ends.sink c.args.net.now.nodes
-          c.clear.new.levels c.args.queue.now few c.requires.ends.source (c.clear.auto.levels ∙ c.requires.levels) c.requires.queue c.clear.ensures;
-      sized = length-set c.clear.new.levels c.args.ends.source 0 ∙ (c.clear.auto.levels ∙ c.requires.levels);
+          search_begins c.args.problem.now.net.now.pipes c.args.sought.now.filling.now.amounts c.args.sought.now.power c.args.sought.now.backward c.args.problem.now.source c.args.problem.now.sink c.args.problem.now.net.now.nodes
+          c.clear.new.levels c.args.queue.now few c.requires.lawful.source (c.clear.auto.levels ∙ c.requires.levels) c.requires.queue c.clear.ensures;
+      sized = length-set c.clear.new.levels c.args.problem.now.source 0 ∙ (c.clear.auto.levels ∙ c.requires.levels);
       missed =
-          get_or-set_other c.clear.new.levels c.args.ends.source c.args.ends.sink 0 unreached (λ e. c.requires.ends.apart (sym e)) ∙ c.clear.ensures c.args.ends.sink;
+          get_or-set_other c.clear.new.levels c.args.problem.now.source c.args.problem.now.sink 0 unreached (λ e. c.requires.lawful.apart (sym e)) ∙ c.clear.ensures c.args.problem.now.sink;
     }
 
-sized : (c : After-spread-count) → length c.spread-count.new.levels ≡ c.args.net.now.nodes
+sized : (c : After-spread-count) → length c.spread-count.new.levels ≡ c.args.problem.now.net.now.nodes
 sized c = c.spread-count.auto.levels ∙ c.loop-head.invariant.sized
 
 step :
     (c : After-spread-count) →
-    Searching c.args.net.now.pipes c.args.filling.now.amounts c.args.sought.power c.args.sought.backward c.args.ends.source c.args.ends.sink c.args.net.now.nodes
+    Searching c.args.problem.now.net.now.pipes c.args.sought.now.filling.now.amounts c.args.sought.now.power c.args.sought.now.backward c.args.problem.now.source c.args.problem.now.sink c.args.problem.now.net.now.nodes
     c.spread-count.new.levels c.spread-count.new.queue c.spread-count.result (c.loop-head.head + 1)
 step c =
-    let net = c.args.net.now in
-    let xs = c.args.filling.now.amounts in
+    let net = c.args.problem.now.net.now in
+    let xs = c.args.sought.now.filling.now.amounts in
     let state = c.loop-head.invariant.state in
     let node = get_or c.loop-head.queue c.loop-head.head 0 in
     let few : net.nodes < unreached = let l = c.pipes-pipes.ensures.lawful.few_nodes in omega (arith, l) in
     let known : node < length c.loop-head.levels =
     let q = (state.queue_is.queued c.loop-head.head c.loop-head-test.true).0 in omega (arith, q, c.loop-head.invariant.sized) in
     let level : get_or c.loop-head.levels node 0 ≡ level_of c.loop-head.levels node = get_or_default c.loop-head.levels node 0 unreached known in
-    let row : c.row-row.result.now ≡ row_of c.args.rows.now node = c.row-row.ensures in
+    let row : c.row-row.result.now ≡ row_of c.args.problem.now.adjacency.now node = c.row-row.ensures in
     let spreads =
-    subst (λ (ps : List Pipe). Spreads (IsNext ps xs c.args.sought.power c.args.sought.backward (row_of c.args.rows.now node) (length (row_of c.args.rows.now node))) (level_of c.loop-head.levels node) c.loop-head.levels c.spread-count.new.levels c.loop-head.queue c.spread-count.new.queue c.loop-head.count c.spread-count.result) c.pipes-pipes.ensures.value
-    (subst (λ (r : List Link). Spreads (IsNext c.pipes-pipes.result.now xs c.args.sought.power c.args.sought.backward r (length r)) (level_of c.loop-head.levels node) c.loop-head.levels c.spread-count.new.levels c.loop-head.queue c.spread-count.new.queue c.loop-head.count c.spread-count.result) row
-    (subst (λ (n : ℕ). Spreads (IsNext c.pipes-pipes.result.now xs c.args.sought.power c.args.sought.backward c.row-row.result.now (length c.row-row.result.now)) n c.loop-head.levels c.spread-count.new.levels c.loop-head.queue c.spread-count.new.queue c.loop-head.count c.spread-count.result) level
+    subst (λ (ps : List Pipe). Spreads (IsNext ps xs c.args.sought.now.power c.args.sought.now.backward (row_of c.args.problem.now.adjacency.now node) (length (row_of c.args.problem.now.adjacency.now node))) (level_of c.loop-head.levels node) c.loop-head.levels c.spread-count.new.levels c.loop-head.queue c.spread-count.new.queue c.loop-head.count c.spread-count.result) c.pipes-pipes.ensures.value
+    (subst (λ (r : List Link). Spreads (IsNext c.pipes-pipes.result.now xs c.args.sought.now.power c.args.sought.now.backward r (length r)) (level_of c.loop-head.levels node) c.loop-head.levels c.spread-count.new.levels c.loop-head.queue c.spread-count.new.queue c.loop-head.count c.spread-count.result) row
+    (subst (λ (n : ℕ). Spreads (IsNext c.pipes-pipes.result.now xs c.args.sought.now.power c.args.sought.now.backward c.row-row.result.now (length c.row-row.result.now)) n c.loop-head.levels c.spread-count.new.levels c.loop-head.queue c.spread-count.new.queue c.loop-head.count c.spread-count.result) level
     c.spread-count.ensures.spreads)) in
     let crossed =
-    subst (λ (ps : List Pipe). (k : ℕ) → k < length (row_of c.args.rows.now node) → LeadsFar ps xs c.args.sought.power c.args.sought.backward (link_at (row_of c.args.rows.now node) k) → IsReached c.spread-count.new.levels (link_at (row_of c.args.rows.now node) k).far) c.pipes-pipes.ensures.value
-    (subst (λ (r : List Link). (k : ℕ) → k < length r → LeadsFar c.pipes-pipes.result.now xs c.args.sought.power c.args.sought.backward (link_at r k) → IsReached c.spread-count.new.levels (link_at r k).far) row
+    subst (λ (ps : List Pipe). (k : ℕ) → k < length (row_of c.args.problem.now.adjacency.now node) → LeadsFar ps xs c.args.sought.now.power c.args.sought.now.backward (link_at (row_of c.args.problem.now.adjacency.now node) k) → IsReached c.spread-count.new.levels (link_at (row_of c.args.problem.now.adjacency.now node) k).far) c.pipes-pipes.ensures.value
+    (subst (λ (r : List Link). (k : ℕ) → k < length r → LeadsFar c.pipes-pipes.result.now xs c.args.sought.now.power c.args.sought.now.backward (link_at r k) → IsReached c.spread-count.new.levels (link_at r k).far) row
     c.spread-count.ensures.crossed) in
-    search_step net c.args.rows.now xs c.args.sought.power c.args.sought.backward c.args.ends.source c.args.ends.sink c.loop-head.levels c.loop-head.queue c.loop-head.count c.loop-head.head
-    few c.requires.rows state c.loop-head-test.true c.loop-head.invariant.missed c.spread-count.new.levels c.spread-count.new.queue c.spread-count.result
+    search_step net c.args.problem.now.adjacency.now xs c.args.sought.now.power c.args.sought.now.backward c.args.problem.now.source c.args.problem.now.sink c.loop-head.levels c.loop-head.queue c.loop-head.count c.loop-head.head
+    few c.requires.lawful.links state c.loop-head-test.true c.loop-head.invariant.missed c.spread-count.new.levels c.spread-count.new.queue c.spread-count.result
     (subst (λ n. IsQueue n c.spread-count.new.levels c.spread-count.new.queue c.spread-count.result) c.loop-head.invariant.sized c.spread-count.ensures.queue)
     spreads crossed
 
-goal_in : (c : After-spread-count) → c.args.ends.sink < length c.spread-count.new.levels
-goal_in c = omega (arith, sized c, c.requires.ends.sink)
+goal_in : (c : After-spread-count) → c.args.problem.now.sink < length c.spread-count.new.levels
+goal_in c = omega (arith, sized c, c.requires.lawful.sink)
 
 pub loop-head-preserved : goal.loop-head-preserved
 loop-head-preserved c =
@@ -60,14 +68,19 @@ loop-head-preserved c =
     record {
       state = step a;
       sized = sized a;
-      missed = get_or_default c.spread-count.new.levels c.args.ends.sink unreached 0 (goal_in a) ∙ c.if-levels-ends.false;
+      missed = get_or_default c.spread-count.new.levels c.args.problem.now.sink unreached 0 (goal_in a) ∙ c.if-levels-problem.false;
     }
 
-pub returns-then-levels-ends : goal.returns-then-levels-ends
-returns-then-levels-ends c =
-    let a = (goal.at.returns-then-levels-ends c).After-spread-count in
-    let same : level_of c.spread-count.new.levels c.args.ends.sink ≡ get_or c.spread-count.new.levels c.args.ends.sink 0 =
-    get_or_default c.spread-count.new.levels c.args.ends.sink unreached 0 (goal_in a) in
-    let r : IsReached c.spread-count.new.levels c.args.ends.sink = omega (arith, same, c.if-levels-ends.true, c.type_inv.levels c.args.ends.sink) in
-    searched_found c.args.net.now.pipes c.args.filling.now.amounts c.args.sought.power c.args.sought.backward c.args.ends.source c.args.ends.sink c.args.net.now.nodes
+pub returns-then-levels-problem : goal.returns-then-levels-problem
+returns-then-levels-problem c =
+    let a = (goal.at.returns-then-levels-problem c).After-spread-count in
+    let same : level_of c.spread-count.new.levels c.args.problem.now.sink ≡ get_or c.spread-count.new.levels c.args.problem.now.sink 0 =
+    get_or_default c.spread-count.new.levels c.args.problem.now.sink unreached 0 (goal_in a) in
+    let r : IsReached c.spread-count.new.levels c.args.problem.now.sink = omega (arith, same, c.if-levels-problem.true, c.type_inv.levels c.args.problem.now.sink) in
+    searched_found c.args.problem.now.net.now.pipes c.args.sought.now.filling.now.amounts c.args.sought.now.power c.args.sought.now.backward c.args.problem.now.source c.args.problem.now.sink c.args.problem.now.net.now.nodes
     c.spread-count.new.levels c.spread-count.new.queue c.spread-count.result (c.loop-head.head + 1) (step a) (sized a) r
+
+pub returns : goal.returns
+returns c =
+    searched_missed c.args.problem.now.net.now.pipes c.args.sought.now.filling.now.amounts c.args.sought.now.power c.args.sought.now.backward c.args.problem.now.source c.args.problem.now.sink c.args.problem.now.net.now.nodes
+    c.loop-head.levels c.loop-head.queue c.loop-head.count c.loop-head.head c.loop-head.invariant.state c.loop-head.invariant.sized c.loop-head-test.false c.loop-head.invariant.missed

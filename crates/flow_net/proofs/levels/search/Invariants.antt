@@ -7,10 +7,10 @@ use Rattle.flow_net.proofs.levels.search.Given as goal
 abbrev pub invariant-loop-head : goal.invariant-loop-head
 invariant-loop-head l =
     record {
-      state : Searching l.net.pipes l.filling.amounts l.sought.power l.sought.backward l.ends.source l.ends.sink l.net.nodes l.levels l.queue l.count l.head;
-      sized : length l.levels ≡ l.net.nodes;
-      missed : get_or l.levels l.ends.sink unreached ≡ unreached;
+      state : Searching l.problem.net.now.pipes l.sought.filling.now.amounts l.sought.power l.sought.backward l.problem.source l.problem.sink l.problem.net.now.nodes l.levels l.queue l.count l.head;
+      sized : length l.levels ≡ l.problem.net.now.nodes;
+      missed : get_or l.levels l.problem.sink unreached ≡ unreached;
     }
 
 abbrev pub decreases-loop-head : goal.decreases-loop-head
-decreases-loop-head l = l.net.nodes - l.head
+decreases-loop-head l = l.problem.net.now.nodes - l.head

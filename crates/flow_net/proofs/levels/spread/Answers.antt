@@ -13,7 +13,7 @@ loop-link-preserved c =
     record {
       queue = subst (λ n. IsQueue n c.cross-filled.new.levels c.cross-filled.new.queue c.cross-filled.result) c.loop-link.auto.levels e.queue;
       spreads =
-          spreads_more c.args.pipes.now c.args.filling.now.amounts c.args.sought.power c.args.sought.backward row i c.args.level
+          spreads_more c.args.pipes.now c.args.sought.now.filling.now.amounts c.args.sought.now.power c.args.sought.now.backward row i c.args.level
           c.args.levels.now c.loop-link.levels c.cross-filled.new.levels c.args.queue.now c.loop-link.queue c.cross-filled.new.queue
           c.args.count c.loop-link.filled c.cross-filled.result c.loop-link.invariant.spreads e.spreads;
       crossed =
@@ -24,6 +24,6 @@ loop-link-preserved c =
                 reached_kept c.loop-link.levels c.cross-filled.new.levels (link_at row k).far (e.spreads.kept (link_at row k).far was) was
             | inr now ↦
                 let same : i ≡ k = omega arith in
-                subst (λ n. LeadsFar c.args.pipes.now c.args.filling.now.amounts c.args.sought.power c.args.sought.backward (link_at row n) → IsReached c.cross-filled.new.levels (link_at row n).far) same e.crossed leads
+                subst (λ n. LeadsFar c.args.pipes.now c.args.sought.now.filling.now.amounts c.args.sought.now.power c.args.sought.now.backward (link_at row n) → IsReached c.cross-filled.new.levels (link_at row n).far) same e.crossed leads
           ];
     }

@@ -8,6 +8,6 @@ abbrev pub invariant-loop-link : goal.invariant-loop-link
 invariant-loop-link l =
     record {
       queue : IsQueue (length l.fn.levels) l.levels l.queue l.filled;
-      spreads : Spreads (IsNext l.pipes l.filling.amounts l.sought.power l.sought.backward l.row l.link-index) l.level l.fn.levels l.levels l.fn.queue l.queue l.count l.filled;
-      crossed : (k : ℕ) → k < l.link-index → LeadsFar l.pipes l.filling.amounts l.sought.power l.sought.backward (link_at l.row k) → IsReached l.levels (link_at l.row k).far;
+      spreads : Spreads (IsNext l.pipes l.sought.filling.now.amounts l.sought.power l.sought.backward l.row l.link-index) l.level l.fn.levels l.levels l.fn.queue l.queue l.count l.filled;
+      crossed : (k : ℕ) → k < l.link-index → LeadsFar l.pipes l.sought.filling.now.amounts l.sought.power l.sought.backward (link_at l.row k) → IsReached l.levels (link_at l.row k).far;
     }

@@ -9,20 +9,20 @@ pub returns : goal.returns
 returns c =
     record {
       left =
-          have_left_each c.args.pipes.now c.args.filling.now.amounts c.loop-step.least c.args.path.now
-          (λ k h. c.loop-step.invariant.left k (let e = c.loop-step-test.false in omega (arith, e, h)));
-      most = c.loop-step.invariant.most;
+          have_left_each c.args.pipes.now c.args.filling.now.amounts c.loop-along.least c.args.path.now
+          (λ k h. c.loop-along.invariant.left k (let e = c.loop-along-test.false in omega (arith, e, h)));
+      most = c.loop-along.invariant.most;
     }
 
-pub loop-step-preserved : goal.loop-step-preserved
-loop-step-preserved c =
+pub loop-along-preserved : goal.loop-along-preserved
+loop-along-preserved c =
     record {
       left =
           λ k h.
-          elim (cases_lt k c.loop-step.step-index) as (λ _. c.min-least.result ≤ left_on c.args.pipes.now c.args.filling.now.amounts (use_at c.args.path.now k)) [
-            | inl old ↦ omega (arith, c.min-least.ensures, c.loop-step.invariant.left k old)
+          elim (cases_lt k c.loop-along.along-index) as (λ _. c.min-least.result ≤ left_on c.args.pipes.now c.args.filling.now.amounts (use_at c.args.path.now k)) [
+            | inl old ↦ omega (arith, c.min-least.ensures, c.loop-along.invariant.left k old)
             | inr now ↦
-                let same : c.loop-step.step-index ≡ k = omega arith in
+                let same : c.loop-along.along-index ≡ k = omega arith in
                 subst (λ n. c.min-least.result ≤ left_on c.args.pipes.now c.args.filling.now.amounts (use_at c.args.path.now n)) same
                 (omega (arith, c.min-least.ensures, c.left.ensures))
           ];
@@ -32,7 +32,7 @@ loop-step-preserved c =
             arith,
             c.min-least.ensures,
             c.left.ensures,
-            c.loop-step.invariant.most w h left,
-            have_left_at c.args.pipes.now c.args.filling.now.amounts w c.args.path.now c.loop-step.step-index c.loop-step-test.true left,
+            c.loop-along.invariant.most w h left,
+            have_left_at c.args.pipes.now c.args.filling.now.amounts w c.args.path.now c.loop-along.along-index c.loop-along-test.true left,
           );
     }

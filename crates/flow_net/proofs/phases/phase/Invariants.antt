@@ -4,18 +4,18 @@ use Rattle.flow_net.specs.Trails.{AreBounded, HaveWays}
 use Rattle.flow_net.proofs.phases.phase.Given as goal
 
 -- the pushes so far are lawful, and before the first one each node has a way
-abbrev pub invariant-loop-levels : goal.invariant-loop-levels
-invariant-loop-levels g l =
+abbrev pub invariant-paths : goal.invariant-paths
+invariant-paths g l =
     record {
-      carried : IsCarried l.net.pipes l.ends.source l.ends.sink l.filling.amounts;
-      augments : Augments l.net.pipes l.ends.source l.ends.sink l.power l.fn.filling l.filling;
+      carried : IsCarried l.problem.net.now.pipes l.problem.source l.problem.sink l.filling.amounts;
+      augments : Augments l.problem.net.now.pipes l.problem.source l.problem.sink l.power l.fn.run.filling l.filling;
       upto : l.filling.pushes ≤ l.limit;
-      steps : l.steps + l.fn.filling.pushes ≡ l.fn.steps + l.filling.pushes;
-      bounded : AreBounded l.net.nodes l.rows l.next;
+      steps : l.steps + l.fn.run.filling.pushes ≡ l.fn.steps + l.filling.pushes;
+      bounded : AreBounded l.problem.net.now.nodes l.problem.adjacency.now l.next;
       ways :
-          l.filling.pushes ≡ l.fn.filling.pushes →
-          HaveWays l.net.pipes l.filling.amounts l.power l.levels l.rows l.net.nodes l.ends.source l.next;
+          l.filling.pushes ≡ l.fn.run.filling.pushes →
+          HaveWays l.problem.net.now.pipes l.filling.amounts l.power l.levels l.problem.adjacency.now l.problem.net.now.nodes l.problem.source l.next;
     }
 
-abbrev pub decreases-loop-levels : goal.decreases-loop-levels
-decreases-loop-levels g l = l.limit - l.filling.pushes
+abbrev pub decreases-paths : goal.decreases-paths
+decreases-paths g l = l.limit - l.filling.pushes

@@ -8,11 +8,11 @@ use Rattle.flow_net.proofs.trails.find_path.Given as goal
 abbrev pub invariant-loop-node : goal.invariant-loop-node
 invariant-loop-node l =
     record {
-      state : Trailing l.net l.rows l.filling.amounts l.power l.levels l.ends.sink l.next l.path l.node;
+      state : Trailing l.problem.net.now l.problem.adjacency.now l.sought.filling.now.amounts l.sought.power l.levels l.problem.sink l.next l.path l.node;
       ways :
-          HaveWays l.net.pipes l.filling.amounts l.power l.levels l.rows l.net.nodes l.ends.source l.fn.next →
-          HaveWays l.net.pipes l.filling.amounts l.power l.levels l.rows l.net.nodes l.ends.source l.next;
+          HaveWays l.problem.net.now.pipes l.sought.filling.now.amounts l.sought.power l.levels l.problem.adjacency.now l.problem.net.now.nodes l.problem.source l.fn.next →
+          HaveWays l.problem.net.now.pipes l.sought.filling.now.amounts l.sought.power l.levels l.problem.adjacency.now l.problem.net.now.nodes l.problem.source l.next;
     }
 
 abbrev pub decreases-loop-node : goal.decreases-loop-node
-decreases-loop-node l = to_try (length l.rows.links.items) l.next (length l.path) (level_of l.levels l.node)
+decreases-loop-node l = to_try (length l.problem.adjacency.now.links.items) l.next (length l.path) (level_of l.levels l.node)

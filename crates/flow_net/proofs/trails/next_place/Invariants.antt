@@ -8,5 +8,5 @@ abbrev pub invariant-loop-place : goal.invariant-loop-place
 invariant-loop-place l =
     record {
       behind : l.from ≤ l.place;
-      first : (k : ℕ) → l.from ≤ k → k < l.place → ¬ IsGood l.pipes l.filling.amounts l.power l.levels l.level (link_at l.row k);
+      first : (k : ℕ) → l.from ≤ k → k < l.place → ¬ IsGood l.pipes l.sought.filling.now.amounts l.sought.power l.levels l.level (link_at l.row k);
     }
