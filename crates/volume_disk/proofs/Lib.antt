@@ -1,9 +1,14 @@
-pub mod Edits
-pub mod Marks
-pub mod MemCalls
-pub mod Mirror
+-- for the crates above
+pub mod Apart
+pub mod Leads
 pub mod Moments
-pub mod Picked
 pub mod Ranges
-pub mod Recording
 pub mod Rest
+pub mod Within
+-- of this crate alone
+mod Edits
+mod Marks
+mod MemCalls
+mod Mirror
+mod Picked
+mod Recording

@@ -1,5 +1,5 @@
--- How a run of calls goes on.
-use Rattle.std.proofs.Common.{inl, inr, ⊎_elim, ℕ, arith}
+-- How a run of calls goes on. For the crates above.
+use Rattle.std.proofs.Common.{inl, inr, ⊎_elim, ℕ, ◌≤◌, arith}
 use Rattle.volume_disk.specs.Disk.{Images}
 use Rattle.volume_disk.specs.Time.{Elapses, Passes}
 
@@ -16,6 +16,16 @@ module _ {D : Type 0} (moment : D → ℕ) (left_since : D → ℕ → Images �
     each = λ c left. ⊎_elim (so_far.each c) (here c) (time.nothing_else (moment old) c so_far.later left);
     before = λ t c le left. ⊎_elim (so_far.before t c le) (λ now. inr (here c now)) (time.nothing_else t c (omega (arith, le, so_far.later)) left);
   }
+
+  -- what a crash now may leave has the property too
+  pub holds_now : (old now : D) (P may_leave : Images → Type 0) → ((t : ℕ) (c : Images) → t ≤ moment now → may_leave c → left_since now t c) → Passes moment left_since old now P → (c : Images) → may_leave c → P c
+  holds_now old now P may_leave counts passes = λ c left. passes.each c (counts (moment old) c passes.later left)
+
+  -- one call more, after which a crash leaves nothing that it might not have left before: a size, a read, a sync
+  pub goes_on_quietly : (old mid new : D) (P might_leave may_leave : Images → Type 0) → ((t : ℕ) (c : Images) → t ≤ moment mid → might_leave c → left_since mid t c) → Passes moment left_since old mid P
+      → Elapses (moment mid) (moment new) (left_since mid) (left_since new) may_leave → ((c : Images) → may_leave c → might_leave c) → Passes moment left_since old new P
+  goes_on_quietly old mid new P might_leave may_leave counts passes time fewer =
+      goes_on old mid new P may_leave passes time (λ c left. holds_now old mid P might_leave counts passes c (fewer c left))
 
   -- the same calls, and a weaker property
   pub weaker : (old new : D) (P Q : Images → Type 0) → Passes moment left_since old new P → ((c : Images) → P c → Q c) → Passes moment left_since old new Q
@@ -45,3 +55,11 @@ module _ {D : Type 0} (moment : D → ℕ) (left_since : D → ℕ → Images �
       (weaker a b (λ x. (y : Images) × A y × S y x) (λ x. (y : Images) × A y × R y x) first (λ x was. (was.0, was.1, one was.0 x was.2)))
       second
       (λ x q. let was = first.each q.0 (counts q.0 q.1) in (was.0, was.1, both was.0 q.0 x was.2 q.2))
+
+  -- a run of calls that keeps to S, and one more whose Q leads S on: what was before it is a crash image of then
+  pub leads_on : (old mid new : D) (A B : Images → Type 0) (S Q : Images → Images → Type 0) → ((t : ℕ) (c : Images) → t ≤ moment mid → B c → left_since mid t c)
+      → Passes moment left_since old mid (λ x. (y : Images) × A y × S y x) → Passes moment left_since mid new (λ x. (y : Images) × B y × Q y x)
+      → ((y z x : Images) → B z → S y z → Q z x → S y x) → Passes moment left_since old new (λ x. (y : Images) × A y × S y x)
+  leads_on old mid new A B S Q counts first second both =
+      follows_on old mid new (λ x. (y : Images) × A y × S y x) (λ x. (y : Images) × B y × Q y x) first second
+      (λ x q. let was = holds_now old mid (λ x. (y : Images) × A y × S y x) B counts first q.0 q.1 in (was.0, was.1, both was.0 q.0 x q.1 was.2 q.2))

@@ -30,21 +30,21 @@ picked_may_leave (Junk byte) m c sound picked = record {
 }
 
 -- after a crash each device has one of its crash images
-pub crash_leaves : (pick : Pick) (r s : Recorded) → Crashes pick r s → (dev : ℕ) → dev ≤ 5 → MayLeave (disk_of r dev) (disk_of s dev).image
-crash_leaves pick r s crashes dev is_device =
-    picked_may_leave pick (disk_of r dev) (disk_of s dev).image (sound_after r.past (slice_index_or r.bases dev []) dev) (crashes.picked dev is_device)
+pub crash_leaves : (pick : Pick) (r s : Recorded) → Crashes pick r s → (device : ℕ) → device ≤ 5 → MayLeave (disk_of r device) (disk_of s device).image
+crash_leaves pick r s crashes device is_device =
+    picked_may_leave pick (disk_of r device) (disk_of s device).image (sound_after r.past (slice_index_or r.bases device []) device) (crashes.picked device is_device)
 
-at_rest_after : (past : List Step) (bases : List (List ℕ)) (dev : ℕ) → past ≡ [] → IsAtRest (disk_after past bases dev)
-at_rest_after past bases dev empty =
-    let nothing : disk_after past bases dev ≡ at_rest (slice_index_or bases dev []) = ap (λ (p : List Step). disk_after p bases dev) empty in
+at_rest_after : (past : List Step) (bases : List (List ℕ)) (device : ℕ) → past ≡ [] → IsAtRest (disk_after past bases device)
+at_rest_after past bases device empty =
+    let nothing : disk_after past bases device ≡ at_rest (slice_index_or bases device []) = ap (λ (p : List Step). disk_after p bases device) empty in
     nothing ∙ ap (λ (m : Medium). at_rest m.image) (sym nothing)
 
 -- and nothing is pending
-pub crash_rests : (pick : Pick) (r s : Recorded) → Crashes pick r s → (dev : ℕ) → IsAtRest (disk_of s dev)
-crash_rests pick r s crashes dev = at_rest_after s.past s.bases dev crashes.past
+pub crash_rests : (pick : Pick) (r s : Recorded) → Crashes pick r s → (device : ℕ) → IsAtRest (disk_of s device)
+crash_rests pick r s crashes device = at_rest_after s.past s.bases device crashes.past
 
 -- blank devices are at rest
-pub blank_rests : (room calls written dev : ℕ) → dev ≤ 5 → disk_of (blank_record room calls written) dev ≡ at_rest []
-blank_rests room calls written dev is_device =
+pub blank_rests : (room calls written device : ℕ) → device ≤ 5 → disk_of (blank_record room calls written) device ≡ at_rest []
+blank_rests room calls written device is_device =
     let empty : List ℕ = [] in
-    ap at_rest (get_or-replicate 6 dev empty empty (omega (arith, is_device)))
+    ap at_rest (get_or-replicate 6 device empty empty (omega (arith, is_device)))

@@ -3,5 +3,5 @@ use Rattle.std.specs.Prelude.{ℕ}
 use Rattle.volume_disk.specs.declared.folder_rack.FolderRack.{FolderRack}
 
 -- how many of its calls have failed
-abbrev pub rack_faults : {R File Dir : Type 0} → FolderRack R File Dir → ℕ
+abbrev pub rack_faults : FolderRack → ℕ
 rack_faults rack = rack.tally

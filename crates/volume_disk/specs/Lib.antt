@@ -2,6 +2,7 @@ pub mod Device
 pub mod Disk
 pub mod Edited
 pub mod Folder
+pub mod Left
 pub mod Medium
 pub mod Memory
 pub mod Picks
@@ -9,3 +10,5 @@ pub mod Record
 pub mod RecordLaws
 pub mod Sound
 pub mod Time
+pub use Rattle.fault_count.specs.Counts
+pub use Rattle.fault_count.specs.Plans

@@ -11,30 +11,30 @@ use Rattle.volume_disk.specs.declared.recorded.Entry.TheVariants.{Write, Cut, Sy
 
 -- what was done to a device
 pub data Step : Type 0 where
-  Writing : (dev : ℕ) → (at : ℕ) → (bytes : List ℕ) → Step
-  Cutting : (dev : ℕ) → (len : ℕ) → Step
-  Syncing : (dev : ℕ) → Step
+  Writing : (device : ℕ) → (at : ℕ) → (bytes : List ℕ) → Step
+  Cutting : (device : ℕ) → (len : ℕ) → Step
+  Syncing : (device : ℕ) → Step
 
 -- the device of a step
-abbrev pub dev_of : Step → ℕ
-dev_of (Writing dev at bytes) = dev
-dev_of (Cutting dev len) = dev
-dev_of (Syncing dev) = dev
+abbrev pub device_of : Step → ℕ
+device_of (Writing device at bytes) = device
+device_of (Cutting device len) = device
+device_of (Syncing device) = device
 
 -- what a step does to its device
 abbrev pub after_step : Step → Medium → Medium
-after_step (Writing dev at bytes) m = wrote at bytes m
-after_step (Cutting dev len) m = trimmed len m
-after_step (Syncing dev) m = flushed m
+after_step (Writing device at bytes) m = wrote at bytes m
+after_step (Cutting device len) m = trimmed len m
+after_step (Syncing device) m = flushed m
 
 -- a device after steps, the newest of them first
 abbrev pub medium_after : List Step → List ℕ → ℕ → Medium
-medium_after [] base dev = at_rest base
-medium_after (step ∷ past) base dev = if dev_of step == dev then after_step step (medium_after past base dev) else medium_after past base dev
+medium_after [] base device = at_rest base
+medium_after (step ∷ past) base device = if device_of step == device then after_step step (medium_after past base device) else medium_after past base device
 
 -- the devices after steps, from images at rest
 abbrev pub disk_after : List Step → List (List ℕ) → Disk
-disk_after past bases dev = medium_after past (slice_index_or bases dev []) dev
+disk_after past bases device = medium_after past (slice_index_or bases device []) device
 
 -- devices in memory: their images when the record began, what was done since then, the newest first, how many moments
 -- the clock has counted, the calls and the written bytes of the record, and the three numbers that bound them
@@ -72,15 +72,15 @@ with_step r step n = record r { past = step ∷ r.past; moment = r.moment + 1; c
 
 -- what an entry of the record says, whose bytes stand apart
 abbrev pub step_of : List ℕ → Entry → Step
-step_of bytes (Write dev at start len) = Writing dev at (take len (drop start bytes))
-step_of bytes (Cut dev len) = Cutting dev len
-step_of bytes (Sync dev) = Syncing dev
+step_of bytes (Write device at start len) = Writing device at (take len (drop start bytes))
+step_of bytes (Cut device len) = Cutting device len
+step_of bytes (Sync device) = Syncing device
 
 -- where the bytes of an entry end
 abbrev pub end_of : Entry → ℕ
-end_of (Write dev at start len) = start + len
-end_of (Cut dev len) = 0
-end_of (Sync dev) = 0
+end_of (Write device at start len) = start + len
+end_of (Cut device len) = 0
+end_of (Sync device) = 0
 
 -- what the entries say, the newest first
 abbrev pub past_of : List ℕ → List Entry → List Step
@@ -97,8 +97,8 @@ no_device = record { base = []; image = []; synced = []; least = 0; greatest = 0
 -- the devices stand for those after the steps
 pub record Stands (devices : List DeviceState) (past : List Step) (space : ℕ) : Type 0 where
   pub six : length devices ≡ 6
-  pub space_of : (dev : ℕ) → dev < 6 → room_of (slice_index_or devices dev no_device) ≡ space
-  pub mirrors : (dev : ℕ) → dev < 6 → Mirrors (slice_index_or devices dev no_device) (disk_after past (bases_of devices) dev)
+  pub space_of : (device : ℕ) → device < 6 → room_of (slice_index_or devices device no_device) ≡ space
+  pub mirrors : (device : ℕ) → device < 6 → Mirrors (slice_index_or devices device no_device) (disk_after past (bases_of devices) device)
 
 -- the record fits its bounds, for which there is memory
 pub record FitsBounds (entries : Vec Entry Global) (bytes : Vec ℕ Global) (moments count most_calls most_bytes : ℕ) : Type 0 where
@@ -128,7 +128,7 @@ pub record Crashed (pick : Pick) (before now : DeviceState) : Type 0 where
 
 -- each device has become the crash image of a pick, with nothing pending, and a clean record has begun
 pub record Crashes (pick : Pick) (r s : Recorded) : Type 0 where
-  pub picked : (dev : ℕ) → dev ≤ 5 → IsPicked pick (disk_of r dev) (disk_of s dev).image
+  pub picked : (device : ℕ) → device ≤ 5 → IsPicked pick (disk_of r device) (disk_of s device).image
   pub past : s.past ≡ []
   pub moment : s.moment ≡ 0
   pub counted : s.counted ≡ 0
@@ -139,18 +139,18 @@ pub record Crashes (pick : Pick) (r s : Recorded) : Type 0 where
 
 -- whether a step is on another device
 abbrev pub is_elsewhere : ℕ → Step → Bool
-is_elsewhere dev step = not (dev_of step == dev)
+is_elsewhere device step = not (device_of step == device)
 
 -- a device begins with another image and nothing pending, the others keep what they are, and the clock begins anew
 abbrev pub with_image : Recorded → ℕ → List ℕ → Recorded
-with_image r dev image = record r { bases = slice_set r.bases dev image; past = filter (is_elsewhere dev) r.past; moment = 0 }
+with_image r device image = record r { bases = slice_set r.bases device image; past = filter (is_elsewhere device) r.past; moment = 0 }
 
 -- the device of an entry
-abbrev pub entry_dev : Entry → ℕ
-entry_dev (Write dev at start len) = dev
-entry_dev (Cut dev len) = dev
-entry_dev (Sync dev) = dev
+abbrev pub entry_device : Entry → ℕ
+entry_device (Write device at start len) = device
+entry_device (Cut device len) = device
+entry_device (Sync device) = device
 
 -- whether an entry is on another device
 abbrev pub is_entry_elsewhere : ℕ → Entry → Bool
-is_entry_elsewhere dev e = not (entry_dev e == dev)
+is_entry_elsewhere device e = not (entry_device e == device)

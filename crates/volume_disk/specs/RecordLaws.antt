@@ -4,7 +4,7 @@ use Rattle.std.proofs.Common.{◌≡◌, ℕ, ◌≤◌, List, [], ◌∷◌, dr
 use Rattle.std.specs.Prelude.{◌==◌, if◌then◌else◌, slice_index_or}
 use Rattle.volume_disk.specs.Medium.{Medium, MayLeave}
 use Rattle.volume_disk.specs.Disk.{Images, Crash}
-use Rattle.volume_disk.specs.Record.{Recorded, Step, dev_of, after_step, medium_after, disk_after, disk_of, LeftSince}
+use Rattle.volume_disk.specs.Record.{Recorded, Step, device_of, after_step, medium_after, disk_after, disk_of, LeftSince}
 use Rattle.volume_disk.specs.Record.Step.{Writing, Cutting, Syncing}
 use Rattle.volume_disk.specs.Sound.{IsSound, sound_at_rest, sound_wrote, sound_trimmed}
 
@@ -19,18 +19,18 @@ only_now r c left =
     subst (λ (k : ℕ). Crash (disk_after (drop k r.past) r.bases) c) now left.2
 
 sound_done : (step : Step) (m : Medium) → IsSound m → IsSound (after_step step m)
-sound_done (Writing dev at bytes) m sound = sound_wrote at bytes m sound
-sound_done (Cutting dev len) m sound = sound_trimmed len m sound
-sound_done (Syncing dev) m sound = sound_at_rest m.image
+sound_done (Writing device at bytes) m sound = sound_wrote at bytes m sound
+sound_done (Cutting device len) m sound = sound_trimmed len m sound
+sound_done (Syncing device) m sound = sound_at_rest m.image
 
 sound_either : (here : Bool) (step : Step) (m : Medium) → IsSound m → IsSound (if here then after_step step m else m)
 sound_either true step m sound = sound_done step m sound
 sound_either false step m sound = sound
 
-pub sound_after : (past : List Step) (base : List ℕ) (dev : ℕ) → IsSound (medium_after past base dev)
-sound_after [] base dev = sound_at_rest base
-sound_after (step ∷ past) base dev = sound_either (dev_of step == dev) step (medium_after past base dev) (sound_after past base dev)
+pub sound_after : (past : List Step) (base : List ℕ) (device : ℕ) → IsSound (medium_after past base device)
+sound_after [] base device = sound_at_rest base
+sound_after (step ∷ past) base device = sound_either (device_of step == device) step (medium_after past base device) (sound_after past base device)
 
 -- a device as it reads is one of its crash images
-pub reads_alike : (r : Recorded) (dev : ℕ) → MayLeave (disk_of r dev) (disk_of r dev).image
-reads_alike r dev = (sound_after r.past (slice_index_or r.bases dev []) dev).alike
+pub reads_alike : (r : Recorded) (device : ℕ) → MayLeave (disk_of r device) (disk_of r device).image
+reads_alike r device = (sound_after r.past (slice_index_or r.bases device []) device).alike

@@ -1,7 +1,7 @@
 // A rack in memory, that fails where it is told to and can be crashed.
 ghost use Rattle.std.specs.Prelude.{◌≡◌, ◌≤◌, ℕ, ◌+◌, [], true, None, Some, IfOk, OnSome, IfSome, is_err, length, if◌then◌else◌};
 ghost use Rattle.std.specs.Io.{ReadsAtMost};
-ghost use Rattle.fault_count.specs.Counts.{HasCause};
+ghost use Rattle.fault_count.specs.Counts.{HasCause, IsOver};
 ghost use Rattle.volume_disk.specs.Medium.{at_rest, IsAtRest};
 ghost use Rattle.volume_disk.specs.Disk.{SameDisk, SameElsewhere, Crash, Gives, Writes, Cuts, Syncs};
 ghost use Rattle.volume_disk.specs.Time.{Elapses};
@@ -45,7 +45,7 @@ impl MemRack {
         fails: Vec<u64>,
     ) -> Option<Self>
         ensures state { IfSome result (λ r. r ≡ record { devices = blank_record room calls written; plan = record { fails = fails.items; calls = 0; faults = 0 }; stop = None }) }
-        ensures rest { IfSome result (λ r. (dev : ℕ) → dev ≤ 5 → disk_of r.devices dev ≡ at_rest []) }
+        ensures rest { IfSome result (λ r. (device : ℕ) → device ≤ 5 → disk_of r.devices device ≡ at_rest []) }
     {
         let devices = RecordedDevices::new(alloc, room, calls, written).ok()?;
         Some(MemRack {
@@ -65,8 +65,8 @@ impl MemRack {
     /// Puts each device into the crash image of a pick, clears the stop and begins a clean record.
     pub fn crash(&mut self, pick: Pick)
         ensures devices { Crashes pick self.old.devices self.new.devices }
-        ensures left { Crash (disk_of self.old.devices) (λ dev. (disk_of self.new.devices dev).image) }
-        ensures rest { (dev : ℕ) → IsAtRest (disk_of self.new.devices dev) }
+        ensures left { Crash (disk_of self.old.devices) (λ device. (disk_of self.new.devices device).image) }
+        ensures rest { (device : ℕ) → IsAtRest (disk_of self.new.devices device) }
         ensures plan { self.new.plan ≡ self.old.plan }
         ensures stop { self.new.stop ≡ None }
     {
@@ -75,22 +75,22 @@ impl MemRack {
     }
 
     /// The bytes of a device, as a read gives them.
-    pub fn image(&self, dev: u8) -> &[u8]
-        requires { dev ≤ 5 }
-        ensures { result.now ≡ (disk_of self.now.devices dev).image }
+    pub fn image(&self, device: u8) -> &[u8]
+        requires { device ≤ 5 }
+        ensures { result.now ≡ (disk_of self.now.devices device).image }
     {
-        self.devices.image(dev)
+        self.devices.image(device)
     }
 
     /// Gives a device other bytes, with nothing pending on it. The others stay as they are, with what is pending there.
-    pub fn set_image(&mut self, dev: u8, bytes: &[u8])
-        requires is_device { dev ≤ 5 }
+    pub fn set_image(&mut self, device: u8, bytes: &[u8])
+        requires is_device { device ≤ 5 }
         requires room { length bytes.now ≤ self.old.devices.room }
-        ensures state { self.new ≡ record self.old { devices = with_image self.old.devices dev bytes.now } }
-        ensures rest { disk_of self.new.devices dev ≡ at_rest bytes.now }
-        ensures others { SameElsewhere dev (disk_of self.old.devices) (disk_of self.new.devices) }
+        ensures state { self.new ≡ record self.old { devices = with_image self.old.devices device bytes.now } }
+        ensures rest { disk_of self.new.devices device ≡ at_rest bytes.now }
+        ensures others { SameElsewhere device (disk_of self.old.devices) (disk_of self.new.devices) }
     {
-        self.devices.set_image(dev, bytes);
+        self.devices.set_image(device, bytes);
     }
 
     /// Counts a call that changes no device.
@@ -107,37 +107,37 @@ impl MemRack {
     }
 
     /// Counts a write, and does it where it fits.
-    fn write_counted(&mut self, dev: u8, at: u64, bytes: &[u8]) -> Result<(), RackError>
-        requires { dev ≤ 5 }
-        ensures { Calls self.old self.new (FitsWrite self.old.devices at (length bytes.now)) (λ r. with_step r (Writing dev at bytes.now) (length bytes.now)) (is_err result) }
+    fn write_counted(&mut self, device: u8, at: u64, bytes: &[u8]) -> Result<(), RackError>
+        requires { device ≤ 5 }
+        ensures { Calls self.old self.new (FitsWrite self.old.devices at (length bytes.now)) (λ r. with_step r (Writing device at bytes.now) (length bytes.now)) (is_err result) }
     {
         let fits = self.devices.has_room(at, bytes.len());
         let turn = next_turn(&mut self.plan, self.stop, fits);
         if let Turn::Refused = turn {
             return Err(RackError::Fault);
         }
-        self.devices.write(dev, at, bytes);
+        self.devices.write(device, at, bytes);
         turn.answer()
     }
 
     /// Counts a cut, and does it where it fits.
-    fn cut_counted(&mut self, dev: u8, len: u64) -> Result<(), RackError>
-        requires { dev ≤ 5 }
-        ensures { Calls self.old self.new (FitsCall self.old.devices) (λ r. with_step r (Cutting dev len) 0) (is_err result) }
+    fn cut_counted(&mut self, device: u8, len: u64) -> Result<(), RackError>
+        requires { device ≤ 5 }
+        ensures { Calls self.old self.new (FitsCall self.old.devices) (λ r. with_step r (Cutting device len) 0) (is_err result) }
     {
         let fits = self.devices.has_call();
         let turn = next_turn(&mut self.plan, self.stop, fits);
         if let Turn::Refused = turn {
             return Err(RackError::Fault);
         }
-        self.devices.cut(dev, len);
+        self.devices.cut(device, len);
         turn.answer()
     }
 
     /// Counts a sync, and does it where it fits and doesn't fail.
-    fn sync_counted(&mut self, dev: u8) -> Result<(), RackError>
-        requires { dev ≤ 5 }
-        ensures { Calls self.old self.new (FitsCall self.old.devices) (λ r. if is_err result then with_look r else with_step r (Syncing dev) 0) (is_err result) }
+    fn sync_counted(&mut self, device: u8) -> Result<(), RackError>
+        requires { device ≤ 5 }
+        ensures { Calls self.old self.new (FitsCall self.old.devices) (λ r. if is_err result then with_look r else with_step r (Syncing device) 0) (is_err result) }
     {
         let fits = self.devices.has_call();
         let turn = next_turn(&mut self.plan, self.stop, fits);
@@ -148,7 +148,7 @@ impl MemRack {
                 Err(RackError::Fault)
             }
             Turn::Runs => {
-                self.devices.sync(dev);
+                self.devices.sync(device);
                 Ok(())
             }
         }
@@ -186,60 +186,65 @@ impl Rack for MemRack {
 
     ghost only_now = { λ r c honest left. laws.only_now r.devices c left };
 
-    ghost reads_alike = { λ r dev honest. laws.reads_alike r.devices dev };
+    ghost reads_alike = { λ r device honest. laws.reads_alike r.devices device };
 
-    fn size(&mut self, dev: u8) -> Result<u64, RackError>
-        requires { dev ≤ 5 }
+    fn size(&mut self, device: u8) -> Result<u64, RackError>
+        requires { device ≤ 5 }
         ensures calls { Calls self.old self.new (FitsCall self.old.devices) with_look (is_err result) }
         ensures cause { HasCause Fault self.old.plan.faults self.new.plan.faults result }
-        ensures value { IfOk result (λ n. n ≡ length (disk_of self.old.devices dev).image) }
+        ensures value { IfOk result (λ n. n ≡ length (disk_of self.old.devices device).image) }
         ensures same { SameDisk (disk_of self.old.devices) (disk_of self.new.devices) }
         ensures time { Elapses self.old.devices.moment self.new.devices.moment (LeftSince self.old.devices) (LeftSince self.new.devices) (Crash (disk_of self.new.devices)) }
+        ensures over { IsOver self.old.plan.faults → self.new ≡ self.old }
     {
         self.look()?;
-        Ok(self.devices.image(dev).len() as u64)
+        Ok(self.devices.image(device).len() as u64)
     }
 
-    fn read(&mut self, dev: u8, at: u64, into: &mut [u8]) -> Result<usize, RackError>
-        requires { dev ≤ 5 }
+    fn read(&mut self, device: u8, at: u64, into: &mut [u8]) -> Result<usize, RackError>
+        requires { device ≤ 5 }
         ensures calls { Calls self.old self.new (FitsCall self.old.devices) with_look (is_err result) }
         ensures bound { ReadsAtMost result into.new }
         ensures cause { HasCause Fault self.old.plan.faults self.new.plan.faults result }
-        ensures bytes { IfOk result (Gives (disk_of self.old.devices dev).image at into.new) }
+        ensures bytes { IfOk result (Gives (disk_of self.old.devices device).image at into.new) }
         ensures same { SameDisk (disk_of self.old.devices) (disk_of self.new.devices) }
         ensures time { Elapses self.old.devices.moment self.new.devices.moment (LeftSince self.old.devices) (LeftSince self.new.devices) (Crash (disk_of self.new.devices)) }
+        ensures over { IsOver self.old.plan.faults → self.new ≡ self.old }
     {
         self.look()?;
-        Ok(copy_from(self.devices.image(dev), at, into))
+        Ok(copy_from(self.devices.image(device), at, into))
     }
 
-    fn write(&mut self, dev: u8, at: u64, bytes: &[u8]) -> Result<(), RackError>
-        requires { dev ≤ 5 }
-        ensures calls { Calls self.old self.new (FitsWrite self.old.devices at (length bytes.now)) (λ r. with_step r (Writing dev at bytes.now) (length bytes.now)) (is_err result) }
+    fn write(&mut self, device: u8, at: u64, bytes: &[u8]) -> Result<(), RackError>
+        requires { device ≤ 5 }
+        ensures calls { Calls self.old self.new (FitsWrite self.old.devices at (length bytes.now)) (λ r. with_step r (Writing device at bytes.now) (length bytes.now)) (is_err result) }
         ensures cause { HasCause Fault self.old.plan.faults self.new.plan.faults result }
-        ensures disk { Writes dev at bytes.now (disk_of self.old.devices) (disk_of self.new.devices) result }
+        ensures disk { Writes device at bytes.now (disk_of self.old.devices) (disk_of self.new.devices) result }
         ensures time { Elapses self.old.devices.moment self.new.devices.moment (LeftSince self.old.devices) (LeftSince self.new.devices) (Crash (disk_of self.new.devices)) }
+        ensures over { IsOver self.old.plan.faults → self.new ≡ self.old }
     {
-        self.write_counted(dev, at, bytes)
+        self.write_counted(device, at, bytes)
     }
 
-    fn cut(&mut self, dev: u8, len: u64) -> Result<(), RackError>
-        requires { dev ≤ 5 }
-        ensures calls { Calls self.old self.new (FitsCall self.old.devices) (λ r. with_step r (Cutting dev len) 0) (is_err result) }
+    fn cut(&mut self, device: u8, len: u64) -> Result<(), RackError>
+        requires { device ≤ 5 }
+        ensures calls { Calls self.old self.new (FitsCall self.old.devices) (λ r. with_step r (Cutting device len) 0) (is_err result) }
         ensures cause { HasCause Fault self.old.plan.faults self.new.plan.faults result }
-        ensures disk { Cuts dev len (disk_of self.old.devices) (disk_of self.new.devices) result }
+        ensures disk { Cuts device len (disk_of self.old.devices) (disk_of self.new.devices) result }
         ensures time { Elapses self.old.devices.moment self.new.devices.moment (LeftSince self.old.devices) (LeftSince self.new.devices) (Crash (disk_of self.new.devices)) }
+        ensures over { IsOver self.old.plan.faults → self.new ≡ self.old }
     {
-        self.cut_counted(dev, len)
+        self.cut_counted(device, len)
     }
 
-    fn sync(&mut self, dev: u8) -> Result<(), RackError>
-        requires { dev ≤ 5 }
-        ensures calls { Calls self.old self.new (FitsCall self.old.devices) (λ r. if is_err result then with_look r else with_step r (Syncing dev) 0) (is_err result) }
+    fn sync(&mut self, device: u8) -> Result<(), RackError>
+        requires { device ≤ 5 }
+        ensures calls { Calls self.old self.new (FitsCall self.old.devices) (λ r. if is_err result then with_look r else with_step r (Syncing device) 0) (is_err result) }
         ensures cause { HasCause Fault self.old.plan.faults self.new.plan.faults result }
-        ensures disk { Syncs dev (disk_of self.old.devices) (disk_of self.new.devices) result }
+        ensures disk { Syncs device (disk_of self.old.devices) (disk_of self.new.devices) result }
         ensures time { Elapses self.old.devices.moment self.new.devices.moment (LeftSince self.old.devices) (LeftSince self.new.devices) (Crash (disk_of self.new.devices)) }
+        ensures over { IsOver self.old.plan.faults → self.new ≡ self.old }
     {
-        self.sync_counted(dev)
+        self.sync_counted(device)
     }
 }

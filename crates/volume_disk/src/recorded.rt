@@ -13,17 +13,17 @@ use std::marker::Model;
 #[derive(Clone, Copy)]
 pub enum Entry {
     Write {
-        dev: u8,
+        device: u8,
         at: u64,
         start: usize,
         len: usize,
     },
     Cut {
-        dev: u8,
+        device: u8,
         len: u64,
     },
     Sync {
-        dev: u8,
+        device: u8,
     },
 }
 
@@ -46,27 +46,27 @@ fn push(entries: &mut Vec<Entry>, entry: Entry)
 }
 
 impl Entry {
-    ghost use Rattle.volume_disk.specs.Record.{entry_dev};
+    ghost use Rattle.volume_disk.specs.Record.{entry_device};
 
     /// The device of the call.
-    fn dev(&self) -> u8
-        ensures { result ≡ entry_dev self.now }
+    fn device(&self) -> u8
+        ensures { result ≡ entry_device self.now }
     {
         match self {
-            Entry::Write { dev, .. } => *dev,
-            Entry::Cut { dev, .. } => *dev,
-            Entry::Sync { dev } => *dev,
+            Entry::Write { device, .. } => *device,
+            Entry::Cut { device, .. } => *device,
+            Entry::Sync { device } => *device,
         }
     }
 }
 
 /// Forgets the entries of a device.
-fn forget(entries: &mut Vec<Entry>, dev: u8)
-    ensures items { entries.new.items ≡ filter (is_entry_elsewhere dev) entries.old.items }
+fn forget(entries: &mut Vec<Entry>, device: u8)
+    ensures items { entries.new.items ≡ filter (is_entry_elsewhere device) entries.old.items }
     ensures fewer { length entries.new.items ≤ length entries.old.items }
     ensures capacity { vec_capacity entries.new ≡ vec_capacity entries.old }
 {
-    entries.retain(|entry| entry.dev() != dev);
+    entries.retain(|entry| entry.device() != device);
 }
 
 /// Six empty devices.
@@ -83,7 +83,7 @@ fn blank_devices(alloc: Global, room: usize) -> Result<Vec<Device>, AllocError>
 
 /// Makes each device the crash image of a pick.
 fn crash_all(devices: &mut [Device], pick: Pick)
-    ensures { (dev : ℕ) → dev < length devices.old → Crashed pick (slice_index_or devices.old dev no_device) (slice_index_or devices.new dev no_device) }
+    ensures { (device : ℕ) → device < length devices.old → Crashed pick (slice_index_or devices.old device no_device) (slice_index_or devices.new device no_device) }
 {
     for device in devices.iter_mut() {
         device.crash(pick);
@@ -155,17 +155,17 @@ impl RecordedDevices {
     }
 
     /// Gives a device another image, with nothing pending on it. The clock begins anew.
-    pub fn set_image(&mut self, dev: u8, image: &[u8])
-        requires is_device { dev ≤ 5 }
+    pub fn set_image(&mut self, device: u8, image: &[u8])
+        requires is_device { device ≤ 5 }
         requires room { length image.now ≤ self.old.room }
-        ensures state { self.new ≡ with_image self.old dev image.now }
-        ensures rest { disk_of self.new dev ≡ at_rest image.now }
-        ensures others { SameElsewhere dev (disk_of self.old) (disk_of self.new) }
+        ensures state { self.new ≡ with_image self.old device image.now }
+        ensures rest { disk_of self.new device ≡ at_rest image.now }
+        ensures others { SameElsewhere device (disk_of self.old) (disk_of self.new) }
     {
-        forget(&mut self.entries, dev);
+        forget(&mut self.entries, device);
         self.moment = 0;
-        let device = &mut self.devices[dev as usize];
-        device.set(image);
+        let state = &mut self.devices[device as usize];
+        state.set(image);
     }
 
     /// Whether one call more fits the record.
@@ -194,10 +194,10 @@ impl RecordedDevices {
     }
 
     /// Writes, and records it.
-    pub fn write(&mut self, dev: u8, at: u64, bytes: &[u8])
-        requires is_device { dev ≤ 5 }
+    pub fn write(&mut self, device: u8, at: u64, bytes: &[u8])
+        requires is_device { device ≤ 5 }
         requires room { FitsWrite self.old at (length bytes.now) }
-        ensures { self.new ≡ with_step self.old (Writing dev at bytes.now) (length bytes.now) }
+        ensures { self.new ≡ with_step self.old (Writing device at bytes.now) (length bytes.now) }
     {
         let start = self.bytes.len();
         extend(&mut self.bytes, bytes);
@@ -205,7 +205,7 @@ impl RecordedDevices {
         push(
             &mut self.entries,
             Entry::Write {
-                dev,
+                device,
                 at,
                 start,
                 len,
@@ -213,41 +213,41 @@ impl RecordedDevices {
         );
         self.moment += 1;
         self.counted += 1;
-        let device = &mut self.devices[dev as usize];
-        device.write(at as usize, bytes);
+        let state = &mut self.devices[device as usize];
+        state.write(at as usize, bytes);
     }
 
     /// Cuts, and records it.
-    pub fn cut(&mut self, dev: u8, len: u64)
-        requires is_device { dev ≤ 5 }
+    pub fn cut(&mut self, device: u8, len: u64)
+        requires is_device { device ≤ 5 }
         requires call { FitsCall self.old }
-        ensures { self.new ≡ with_step self.old (Cutting dev len) 0 }
+        ensures { self.new ≡ with_step self.old (Cutting device len) 0 }
     {
-        push(&mut self.entries, Entry::Cut { dev, len });
+        push(&mut self.entries, Entry::Cut { device, len });
         self.moment += 1;
         self.counted += 1;
-        let device = &mut self.devices[dev as usize];
-        device.cut(len);
+        let state = &mut self.devices[device as usize];
+        state.cut(len);
     }
 
     /// Syncs, and records it.
-    pub fn sync(&mut self, dev: u8)
-        requires is_device { dev ≤ 5 }
+    pub fn sync(&mut self, device: u8)
+        requires is_device { device ≤ 5 }
         requires call { FitsCall self.old }
-        ensures { self.new ≡ with_step self.old (Syncing dev) 0 }
+        ensures { self.new ≡ with_step self.old (Syncing device) 0 }
     {
-        push(&mut self.entries, Entry::Sync { dev });
+        push(&mut self.entries, Entry::Sync { device });
         self.moment += 1;
         self.counted += 1;
-        let device = &mut self.devices[dev as usize];
-        device.sync();
+        let state = &mut self.devices[device as usize];
+        state.sync();
     }
 
     /// A device as it reads.
-    pub fn image(&self, dev: u8) -> &[u8]
-        requires { dev ≤ 5 }
-        ensures { result.now ≡ (disk_of self.now dev).image }
+    pub fn image(&self, device: u8) -> &[u8]
+        requires { device ≤ 5 }
+        ensures { result.now ≡ (disk_of self.now device).image }
     {
-        self.devices[dev as usize].image()
+        self.devices[device as usize].image()
     }
 }

@@ -13,10 +13,10 @@ returns c =
     let devices = with_items_is old.devices c.crash_all.new.devices (omega (arith, c.crash_all.auto.devices, c.deref_mut.ensures.len, old.devices.ok.0)) in
     let each = rw c.deref_mut.ensures.value at c.crash_all.ensures in
     rw (← c.self.view_is) (record {
-      picked = λ dev is_device.
-          subst (λ (l : List ℕ). IsPicked c.args.pick (disk_after (past_of old.bytes.items old.entries.items) (bases_of old.devices.items) dev) l)
-          (sym (crashed_image _ _ _ dev past devices))
-          (crash_picks c.args.pick old.devices.items c.crash_all.new.devices (past_of old.bytes.items old.entries.items) old.room dev c.self.invariant.0 each is_device);
+      picked = λ device is_device.
+          subst (λ (l : List ℕ). IsPicked c.args.pick (disk_after (past_of old.bytes.items old.entries.items) (bases_of old.devices.items) device) l)
+          (sym (crashed_image _ _ _ device past devices))
+          (crash_picks c.args.pick old.devices.items c.crash_all.new.devices (past_of old.bytes.items old.entries.items) old.room device c.self.invariant.0 each is_device);
       past = past;
       moment = refl;
       counted = refl;

@@ -12,18 +12,18 @@ invariant_of-self c =
     let old = c.self.inside in
     let stands = c.self.invariant.0 in
     let fits = c.self.invariant.1 in
-    let is_device : c.args.dev < 6 = omega (arith, c.requires.is_device) in
+    let is_device : c.args.device < 6 = omega (arith, c.requires.is_device) in
     let call = subst (λ (r : Recorded). FitsCall r) (sym c.self.view_is) c.requires.call in
-    let past = ap (λ (l : List Entry). past_of old.bytes.items l) c.push.ensures.items ∙ past_of_push old.bytes.items old.entries.items (Cut c.args.dev c.args.len) in
-    let read = device_read old.devices.items c.args.dev c.index_mut-device.result.now stands.six is_device c.index_mut-device.ensures.value in (
-      stands_at _ _ _ _ past (stands_step old.devices.items _ _ c.args.dev (Cutting c.args.dev c.args.len) c.index_mut-device.result.now c.cut.new.self stands is_device read c.cut.ensures.base c.cut.ensures.room refl c.cut.ensures.done),
-      fits_more old.entries c.push.new.entries old.bytes old.bytes _ _ _ _ (Cut c.args.dev c.args.len) fits c.push.ensures.items (omega arith) (omega arith) fits.bytes_in call c.push.ensures.capacity (omega arith),
+    let past = ap (λ (l : List Entry). past_of old.bytes.items l) c.push.ensures.items ∙ past_of_push old.bytes.items old.entries.items (Cut c.args.device c.args.len) in
+    let read = device_read old.devices.items c.args.device c.index_mut-state.result.now stands.six is_device c.index_mut-state.ensures.value in (
+      stands_at _ _ _ _ past (stands_step old.devices.items _ _ c.args.device (Cutting c.args.device c.args.len) c.index_mut-state.result.now c.cut.new.self stands is_device read c.cut.ensures.base c.cut.ensures.room refl c.cut.ensures.done),
+      fits_more old.entries c.push.new.entries old.bytes old.bytes _ _ _ _ (Cut c.args.device c.args.len) fits c.push.ensures.items (omega arith) (omega arith) fits.bytes_in call c.push.ensures.capacity (omega arith),
     )
 
 pub returns : goal.returns
 returns c =
     let old = c.self.inside in
-    let is_device : c.args.dev < 6 = omega (arith, c.requires.is_device) in
-    let past = ap (λ (l : List Entry). past_of old.bytes.items l) c.push.ensures.items ∙ past_of_push old.bytes.items old.entries.items (Cut c.args.dev c.args.len) in
-    let read = device_read old.devices.items c.args.dev c.index_mut-device.result.now c.self.invariant.0.six is_device c.index_mut-device.ensures.value in
-    rw (← c.self.view_is) (same_record _ _ _ _ _ _ _ _ _ _ _ (bases_of-set old.devices.items c.args.dev c.cut.new.self (c.cut.ensures.base ∙ ap (λ (d : DeviceState). d.base) read)) past (sym (add-zero _)))
+    let is_device : c.args.device < 6 = omega (arith, c.requires.is_device) in
+    let past = ap (λ (l : List Entry). past_of old.bytes.items l) c.push.ensures.items ∙ past_of_push old.bytes.items old.entries.items (Cut c.args.device c.args.len) in
+    let read = device_read old.devices.items c.args.device c.index_mut-state.result.now c.self.invariant.0.six is_device c.index_mut-state.ensures.value in
+    rw (← c.self.view_is) (same_record _ _ _ _ _ _ _ _ _ _ _ (bases_of-set old.devices.items c.args.device c.cut.new.self (c.cut.ensures.base ∙ ap (λ (d : DeviceState). d.base) read)) past (sym (add-zero _)))

@@ -3,7 +3,7 @@ use Rattle.std.proofs.lemmas.List.{take-append-le}
 use Rattle.std.proofs.Math.Seq.{take-append-add}
 use Rattle.std.proofs.KnownBytes.{Consumes-nil, Consumes-trans}
 use Rattle.std.specs.Io.KnownBytes.{Consumes}
-use Rattle.volume_disk.proofs.folder_rack.fill.Goals as goal
+use Rattle.volume_disk.proofs.device_file.fill.Goals as goal
 
 -- the front of a list, and what was put behind it
 front_filled : (a n : ℕ) (list part rest : List ℕ) → a ≤ length list → n ≤ length part → take (a + n) (take a list ++ (part ++ rest)) ≡ take a list ++ take n part
@@ -25,7 +25,7 @@ pub returns-then-count-eq0-clause-bytes : goal.returns-then-count-eq0-clause-byt
 returns-then-count-eq0-clause-bytes g c =
     let before = c.loop-done.invariant in
     let got = c.in_ok-count.ensures in
-    filled _ _ _ c.loop-done.done c.in_ok-count.count c.loop-done.done c.loop-done.into c.read.new.buf _ (omega (arith, c.if-count-eq0.true)) before.within got.bound.0 before.bytes got.bytes.0
+    filled _ _ _ c.loop-done.done c.in_ok-count.count c.loop-done.done c.loop-done.into c.read_once.new.into _ (omega (arith, c.if-count-eq0.true)) before.within got.bound.0 before.bytes got.bytes
 
 pub loop-done-preserved : goal.loop-done-preserved
 loop-done-preserved g c =
@@ -33,5 +33,5 @@ loop-done-preserved g c =
     let got = c.in_ok-count.ensures in
     record {
       within = search rules;
-      bytes = filled _ _ _ c.loop-done.done c.in_ok-count.count _ c.loop-done.into c.read.new.buf _ refl before.within got.bound.0 before.bytes got.bytes.0;
+      bytes = filled _ _ _ c.loop-done.done c.in_ok-count.count _ c.loop-done.into c.read_once.new.into _ refl before.within got.bound.0 before.bytes got.bytes;
     }
