@@ -1,0 +1,11 @@
+pub mod Agree
+pub mod Extend
+pub mod Folds
+pub mod Halves
+pub mod Logs
+pub mod Marks
+pub mod NameLists
+pub mod NameTests
+pub mod Records
+pub mod Small
+pub mod Walks

@@ -1,0 +1,10 @@
+pub mod Examples
+pub mod Halves
+pub mod JournalRecords
+pub mod Logs
+pub mod Names
+pub mod Phases
+pub mod Sites
+pub mod Views
+pub mod VolumeRecords
+pub mod Volumes
