@@ -1,0 +1,9 @@
+pub mod Appended
+pub mod Appends
+pub mod Blanks
+pub mod Bodies
+pub mod Opened
+pub mod Quiets
+pub mod Reaching
+pub mod Standing
+pub mod Walked

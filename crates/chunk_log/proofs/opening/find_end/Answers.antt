@@ -1,0 +1,50 @@
+use Rattle.std.proofs.Common.{◌≡◌, ◌≤◌, ◌<◌, ◌+◌, ◌^◌, ℕ, List, length, take, drop, refl, sym, ◌∙◌, ap, subst, arith}
+use Rattle.volume_disk.specs.Medium.{Medium}
+use Rattle.chunk_log.specs.declared.gates.Gate.{Gate}
+use Rattle.chunk_log.specs.declared.gates.Gate.TheVariants.{Shut, Broken, Open}
+use Rattle.chunk_log.specs.Gates.{IsGate}
+use Rattle.chunk_log.proofs.Quiets.{quiet_begins, quiet_then}
+use Rattle.chunk_log.proofs.Reaching.{Reaches, at_start, shut_at, broken_at, open_at, seen_from}
+use Rattle.chunk_log.proofs.opening.find_end.Goals as goal
+
+pub gates-init : goal.gates-init
+gates-init g c = record {
+  below = omega arith;
+  count = refl;
+  honest = refl;
+  quiet = λ honest. quiet_begins g.R.Rack.moment g.R.Rack.left_since c.args.rack.now (g.R.Rack.disk c.args.rack.now) (λ x left. g.met.R.Rack.only_now _ x honest left);
+  reaches = λ honest is long. at_start (g.R.Rack.disk c.args.rack.now c.args.device).image (omega (arith, is, long));
+}
+
+pub returns-in-Shut-clause-finds : goal.returns-in-Shut-clause-finds
+returns-in-Shut-clause-finds g c = λ honest is long.
+    let inv = c.gates.invariant in
+    let image = (g.R.Rack.disk c.args.rack.now c.args.device).image in
+    let seen = seen_from image _ c.gates.at c.args.size _ Shut (ap (λ (m : Medium). m.image) ((inv.quiet honest).same c.args.device)) is (c.in_ok-look.ensures.gate (inv.honest ∙ honest)) c.in-Shut.is in
+    shut_at image c.gates.at (inv.reaches honest is long) seen (omega (arith, is, long))
+
+pub returns-in-Broken-clause-finds : goal.returns-in-Broken-clause-finds
+returns-in-Broken-clause-finds g c = λ honest is long.
+    let inv = c.gates.invariant in
+    let image = (g.R.Rack.disk c.args.rack.now c.args.device).image in
+    let seen = seen_from image _ c.gates.at c.args.size _ Broken (ap (λ (m : Medium). m.image) ((inv.quiet honest).same c.args.device)) is (c.in_ok-look.ensures.gate (inv.honest ∙ honest)) c.in-Broken.is in
+    broken_at image c.gates.at (inv.reaches honest is long) seen (omega (arith, is, long))
+
+pub gates-preserved : goal.gates-preserved
+gates-preserved g c =
+    let inv = c.gates.invariant in
+    let n = c.in-Open.len in
+    let within = subst (IsGate c.gates.at c.args.size) c.in-Open.is c.in_ok-look.ensures.within in
+    let wide : c.from.result ≡ n = c.from.ensures in
+    record {
+      below = omega (arith, within.3, wide);
+      count = c.in_ok-look.ensures.cause.kept (λ same. cc) ∙ inv.count;
+      honest = c.in_ok-look.ensures.honest ∙ inv.honest;
+      quiet = λ honest.
+          quiet_then g.R.Rack.moment g.R.Rack.left_since c.args.rack.now c.gates.rack c.look.new.rack _ _ _ (λ t x le crash. g.met.R.Rack.counts_now _ t x (inv.honest ∙ honest) le crash) (inv.quiet honest)
+          (c.in_ok-look.ensures.quiet (inv.honest ∙ honest));
+      reaches = λ honest is long.
+          let image = (g.R.Rack.disk c.args.rack.now c.args.device).image in
+          let seen = seen_from image _ c.gates.at c.args.size _ (Open n) (ap (λ (m : Medium). m.image) ((inv.quiet honest).same c.args.device)) is (c.in_ok-look.ensures.gate (inv.honest ∙ honest)) c.in-Open.is in
+          subst (λ (k : ℕ). Reaches image (c.gates.at + (5 + k))) (sym wide) (open_at image c.gates.at n (inv.reaches honest is long) seen (omega (arith, within.2, is)));
+    }

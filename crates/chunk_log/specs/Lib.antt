@@ -1,0 +1,10 @@
+pub mod Appending
+pub mod Bodies
+pub mod Frames
+pub mod Gates
+pub mod LogValues
+pub mod Opening
+pub mod Quiet
+pub mod Runs
+pub mod Standing
+pub mod Walking

@@ -1,0 +1,194 @@
+// Logs.
+ghost use Rattle.std.specs.Prelude.{◌≡◌, ◌+◌, ◌^◌, ◌<◌, ◌≤◌, ℕ, List, true, length, take, slice_index_or, [], Ok, Err, IsErrOf};
+ghost use Rattle.fault_count.specs.Counts.{HandsOn};
+ghost use Rattle.site_forms.specs.Logs.{parse, log_size};
+ghost use Rattle.site_forms.specs.Logs.Parsed.{Good};
+ghost use Rattle.chunk_log.specs.Appending.{Appends, Appended, IsUntouched, Noted};
+ghost use Rattle.chunk_log.specs.Opening.{Answers, Opened};
+ghost use Rattle.chunk_log.specs.Quiet.{Quiet};
+ghost use Rattle.chunk_log.specs.Walking.{Walks, WalksTo, placed, place_behind, ReadsBytes, NamesPlace};
+ghost use Rattle.chunk_log.specs.declared.errors.AppendError.TheVariants.{RackFault as AppendFault};
+ghost use Rattle.chunk_log.specs.declared.errors.LogError.TheVariants.{RackFault, Damage};
+ghost use Rattle.chunk_log.specs.Gates.{IsGate};
+
+use crate::errors::{AppendError, LogError};
+use crate::frame::Frame;
+use crate::gates::{Gate, look};
+use crate::opening::{Found, settle};
+use crate::place::Place;
+use crate::writing::append_at;
+use std::marker::Model;
+use volume_disk::{Rack, RackError};
+
+/// A log on a device: the place of the gate at its end, and the greatest size that it may grow to.
+#[derive(Drop)]
+pub struct Log {
+    device: u8,
+    limit: u64,
+    end: u64,
+    spent: bool,
+}
+
+impl Model for Log {
+    ghost use Rattle.chunk_log.specs.LogValues.{LogValue, log_code, KeepsLog};
+
+    ghost Value = { LogValue };
+
+    ghost coded = { log_code };
+
+    ghost view = { λ l. record { device = l.device; limit = l.limit; end = l.end; spent = l.spent } };
+
+    ghost invariant = { λ l. KeepsLog (record { device = l.device; limit = l.limit; end = l.end; spent = l.spent }) };
+}
+
+impl Log {
+    /// Opens the log on a device, which may grow to `limit` bytes. The device is synced first, so that nothing is
+    /// pending there; a blank one gets its gate. Takes no memory.
+    pub fn open<R: Rack>(rack: &mut R, device: u8, limit: u64) -> Result<Log, LogError>
+        requires device { device ≤ 5 }
+        requires limit { limit ≤ 2 ^ 40 }
+        ensures cause { HandsOn RackFault (R.faults rack.old) (R.faults rack.new) result }
+        ensures honest { R.honest rack.new ≡ R.honest rack.old }
+        ensures answers { Answers device limit result }
+        ensures opened { R.honest rack.old ≡ true → Opened R.moment R.left_since rack.old rack.new (R.disk rack.old) (R.disk rack.new) device result }
+    {
+        match settle(rack, device) {
+            Ok(Found::End(end)) => Ok(Log {
+                device,
+                limit,
+                end,
+                spent: false,
+            }),
+            Ok(Found::Bad(at)) => Err(LogError::Damage { device, at }),
+            Err(RackError::Fault) => Err(LogError::RackFault),
+        }
+    }
+
+    /// Adds the body of a frame, and answers its place: the frame behind the gate at the end and a sync, then the open
+    /// gate and a sync. After a fault the log is spent. Takes no memory.
+    pub fn append<R: Rack>(&mut self, rack: &mut R, frame: &Frame) -> Result<u64, AppendError>
+        requires { 1 ≤ length frame.now.body }
+        ensures cause { HandsOn AppendFault (R.faults rack.old) (R.faults rack.new) result }
+        ensures honest { R.honest rack.new ≡ R.honest rack.old }
+        ensures log { Appends self.old self.new (length frame.now.body) result }
+        ensures untouched { IsUntouched rack.old rack.new result }
+        ensures appended { R.honest rack.old ≡ true → Appended R.moment R.left_since rack.old rack.new (R.disk rack.old) (R.disk rack.new) self.old self.new frame.now.body result }
+    {
+        if self.spent {
+            return Err(AppendError::Spent);
+        }
+        let len = frame.len();
+        if self.limit < self.end + 6 + u64::from(len) {
+            return Err(AppendError::DeviceFull {
+                device: self.device,
+                end: self.end,
+                len,
+            });
+        }
+        let done = append_at(rack, self.device, self.end, frame);
+        self.note(done, len)
+    }
+
+    // What an append of `len` bytes leaves of the log, from what was answered.
+    fn note(&mut self, done: Result<(), RackError>, len: u32) -> Result<u64, AppendError>
+        requires fits { self.old.end + len + 6 ≤ self.old.limit }
+        ensures { Noted self.old self.new len done result }
+    {
+        match done {
+            Ok(()) => {
+                let at = self.end + 5;
+                self.end = at + u64::from(len);
+                Ok(at)
+            }
+            Err(RackError::Fault) => {
+                self.spent = true;
+                Err(AppendError::RackFault)
+            }
+        }
+    }
+
+    /// The place of the gate at the end.
+    pub fn end(&self) -> u64
+        ensures gate { result ≡ self.now.end }
+        ensures below { result < 2 ^ 40 }
+    {
+        self.end
+    }
+
+    /// The device of the log.
+    pub fn device(&self) -> u8
+        ensures device { result ≡ self.now.device }
+        ensures six { result ≤ 5 }
+    {
+        self.device
+    }
+
+    /// The place of the body behind a gate; none at the end of the log.
+    pub fn walk<R: Rack>(&self, rack: &mut R, at: u64) -> Result<Option<Place>, LogError>
+        requires { at ≤ self.now.end }
+        ensures cause { HandsOn RackFault (R.faults rack.old) (R.faults rack.new) result }
+        ensures honest { R.honest rack.new ≡ R.honest rack.old }
+        ensures walks { Walks self.now at result }
+        ensures quiet { R.honest rack.old ≡ true → Quiet R.moment R.left_since rack.old rack.new (R.disk rack.old) (R.disk rack.new) }
+        ensures bodies { (bodies : List (List ℕ)) (i : ℕ) → R.honest rack.old ≡ true → parse (R.disk rack.old self.now.device).image ≡ Good bodies self.now.end → i < length bodies → at ≡ log_size (take i bodies)
+            → WalksTo (place_behind at (length (slice_index_or bodies i []))) result }
+    {
+        if at == self.end {
+            return Ok(None);
+        }
+        match look(rack, self.device, at, self.end + 1) {
+            Ok(gate) => self.behind(at, gate),
+            Err(RackError::Fault) => Err(LogError::RackFault),
+        }
+    }
+
+    // The place of the body behind a gate, from what stands there.
+    fn behind(&self, at: u64, gate: Gate) -> Result<Option<Place>, LogError>
+        requires within { IsGate at (self.now.end + 1) gate }
+        ensures { result ≡ placed self.now at gate }
+    {
+        match gate {
+            Gate::Open(len) => {
+                let body = at + 5;
+                Ok(Some(Place {
+                    at: body,
+                    len,
+                    next: body + u64::from(len),
+                }))
+            }
+            Gate::Shut => Err(self.damage(at)),
+            Gate::Broken => Err(self.damage(at)),
+        }
+    }
+
+    // Damage at a place of this log's device.
+    fn damage(&self, at: u64) -> LogError
+        ensures { result ≡ Damage self.now.device at }
+    {
+        LogError::Damage {
+            device: self.device,
+            at,
+        }
+    }
+
+    /// Copies bytes of the log from a place on, before its end.
+    pub fn read_body<R: Rack>(&self, rack: &mut R, at: u64, into: &mut [u8]) -> Result<(), LogError>
+        requires { at + length into.old ≤ self.now.end }
+        ensures cause { HandsOn RackFault (R.faults rack.old) (R.faults rack.new) result }
+        ensures honest { R.honest rack.new ≡ R.honest rack.old }
+        ensures place { NamesPlace self.now.device at result }
+        ensures quiet { R.honest rack.old ≡ true → Quiet R.moment R.left_since rack.old rack.new (R.disk rack.old) (R.disk rack.new) }
+        ensures bytes { R.honest rack.old ≡ true → ReadsBytes (R.disk rack.old self.now.device).image at into.new result }
+    {
+        let wanted = into.len();
+        match rack.read(self.device, at, into) {
+            Ok(count) => {
+                if count < wanted {
+                    return Err(self.damage(at));
+                }
+                Ok(())
+            }
+            Err(RackError::Fault) => Err(LogError::RackFault),
+        }
+    }
+}
