@@ -1,3 +1,4 @@
 pub mod AmountLemmas
 pub mod MeaningLemmas
-pub mod OrderLemmas
+pub mod OperandLemmas
+pub mod WordLemmas

@@ -1,19 +1,53 @@
 -- Words mean one thing.
-use Rattle.std.proofs.Common.{◌≡◌, ◌∙◌, ◌+◌, ◌∷◌, [], ℕ, zero, suc, List, refl, sym, ap, subst, inl, inr, length, arith}
-use Rattle.std.specs.Prelude.{Ok, Err, codes}
+use Rattle.std.proofs.Common.{◌≡◌, ◌∙◌, ◌+◌, ◌∷◌, [], ℕ, zero, suc, List, Option, Some, None, refl, sym, ap, subst, arith}
+use Rattle.std.specs.Prelude.{Ok, Err, bytes_eq, if◌then◌else◌}
 use Rattle.std.specs.Fmt.{decimal}
 use Rattle.std.proofs.lemmas.Fmt.{decimal_injective}
 use Rattle.std.proofs.lemmas.List.{same_from_push}
 use Rattle.goseed_words.specs.declared.amount.Amount.{Amount}
 use Rattle.goseed_words.specs.declared.amount.Amount.TheVariants.{Bytes, Percent}
-use Rattle.goseed_words.specs.declared.order.Order.{Order}
-use Rattle.goseed_words.specs.declared.order.Order.TheVariants.{Best, Weigh}
 use Rattle.goseed_words.specs.declared.order.WordError.{WordError}
 use Rattle.goseed_words.specs.declared.order.WordError.TheVariants.{Usage, BadWord}
 use Rattle.goseed_words.specs.Amounts.{SpellsAmount}
-use Rattle.goseed_words.specs.Commands.{Operand, AnyWord, AnAmount, IsCommand, IsRow, IsSpelled, IsFirstBad}
-use Rattle.goseed_words.specs.Orders.{SpellsOrder, IsWordFault, IsSameOrder, OneMeaning}
+use Rattle.goseed_words.specs.Commands.{Form, Kind, Reads, Creates, ASet, AnAmount, ANumber, Value, Says, Command, Best, Weigh, row}
+use Rattle.goseed_words.specs.Asked.{Values, Asked, SayAll, Asks, HasOperand, Fits, IsFirstBad}
+use Rattle.goseed_words.specs.Orders.{asked_of, IsWordFault, OneMeaning}
 use Rattle.goseed_words.proofs.AmountLemmas.{no_percent}
+
+-- the first command with a name
+named : List ℕ → Option Command
+named name =
+    if bytes_eq name (row Best).name then Some Best
+    else if bytes_eq name (row Weigh).name then Some Weigh
+    else None
+
+-- it is the command: names are apart
+found : (command : Command) → named (row command).name ≡ Some command
+unfolding named
+found Best = refl
+found Weigh = refl
+
+one_command : (a b : Command) → (row a).name ≡ (row b).name → a ≡ b
+one_command a b same = cc (sym (found a) ∙ (ap named same ∙ found b))
+
+-- what holds of a row's command and operands holds of those of each row of the same words
+pub of_row : {words : List (List ℕ)} {a b : Command} (p : Fits words a) (q : Fits words b) (P : Command → List (List ℕ) → Type 0) → P a p.operands → P b q.operands
+of_row {words} {a} {b} p q P holds =
+    let same : (row a).name ∷ p.operands ≡ (row b).name ∷ q.operands = sym p.split ∙ q.split in
+    let operands : p.operands ≡ q.operands = cc same in
+    subst (λ (c : Command). P c q.operands) (one_command a b (cc same)) (subst (P a) operands holds)
+
+-- a command that would read what it creates fits no words
+pub not_apart : (command : Command) (operands : List (List ℕ)) (name : List ℕ) (form : Form) → HasOperand (row command).operands operands Creates name
+    → HasOperand (row command).operands operands (Reads form) name → IsWordFault ((row command).name ∷ operands) Usage
+not_apart command operands name form created read other fits =
+    let same : (row command).name ∷ operands ≡ (row other).name ∷ fits.operands = fits.split in
+    let words : operands ≡ fits.operands = cc same in
+    let Has : Kind → Command → List (List ℕ) → Type 0 = λ kind c ops. HasOperand (row c).operands ops kind name in
+    let commands = one_command command other (cc same) in
+    fits.apart name form
+    (subst (λ (c : Command). Has Creates c fits.operands) commands (subst (Has Creates command) words created))
+    (subst (λ (c : Command). Has (Reads form) c fits.operands) commands (subst (Has (Reads form) command) words read))
 
 -- a word spells one amount
 one_amount : (word : List ℕ) (a b : Amount) → SpellsAmount word a → SpellsAmount word b → a ≡ b
@@ -24,101 +58,58 @@ one_amount word (Percent k) (Percent l) p q =
     let same = same_from_push (decimal k) (decimal l) 37 37 (sym p.0 ∙ q.0) in
     ap Percent (decimal_injective k l (omega (arith, p.1)) (omega (arith, q.1)) same.0)
 
-best_is_not_weigh : codes "best" ≡ codes "weigh" → ⊥
-best_is_not_weigh e = let lengths : 4 ≡ 5 = ap (λ (t : List ℕ). length t) e in omega (arith, lengths)
+-- a word says one value of a kind
+one_value : (kind : Kind) (word : List ℕ) (a b : Value kind) → Says kind word a → Says kind word b → a ≡ b
+one_value (Reads form) word a b p q = sym p ∙ q
+one_value Creates word a b p q = sym p ∙ q
+one_value ASet word a b p q = sym p.0 ∙ q.0
+one_value AnAmount word a b p q = one_amount word a b p q
+one_value (ANumber limit) word a b p q = decimal_injective a b (omega (arith, p.1.small)) (omega (arith, q.1.small)) (sym p.0 ∙ q.0)
 
--- a command has one list of operands
-one_command : (name other : List ℕ) (a b : List Operand) → name ≡ other → IsCommand name a → IsCommand other b → a ≡ b
-one_command name other a b same (inl p) (inl q) = p.1 ∙ sym q.1
-one_command name other a b same (inr p) (inr q) = p.1 ∙ sym q.1
-one_command name other a b same (inl p) (inr q) = absurd (best_is_not_weigh (sym p.0 ∙ (same ∙ q.0)))
-one_command name other a b same (inr p) (inl q) = absurd (best_is_not_weigh (sym q.0 ∙ (sym same ∙ p.0)))
+one_values : (kinds : List Kind) (words : List (List ℕ)) (a b : Values kinds) → SayAll kinds words a → SayAll kinds words b → a ≡ b
+one_values [] [] a b p q = refl
+one_values (kind ∷ kinds) (word ∷ words) a b p q =
+    ap (λ (v : Value kind). (v, a.1)) (one_value kind word a.0 b.0 p.0 q.0) ∙ ap (λ (vs : Values kinds). (b.0, vs)) (one_values kinds words a.1 b.1 p.1 q.1)
+one_values [] (word ∷ words) a b p q = absurd p
+one_values (kind ∷ kinds) [] a b p q = absurd p
 
--- each operand's word is spelled as it must be
-AllSpelled : List Operand → List (List ℕ) → Type 0
-AllSpelled (operand ∷ operands) (word ∷ words) = IsSpelled operand word × AllSpelled operands words
-AllSpelled [] words = Unit {0}
-AllSpelled operands [] = Unit {0}
+pub one_asked : (words : List (List ℕ)) (a b : Asked) → Asks words a → Asks words b → a ≡ b
+one_asked words a b p q =
+    of_row p.fits q.fits (λ command operands. (values : Values (row command).operands) → SayAll (row command).operands operands values → a ≡ record { command = command; values = values })
+    (λ values say. ap (λ (vs : Values (row a.command).operands). record { command = a.command; values = vs }) (one_values (row a.command).operands p.fits.operands a.values values p.say say)) b.values q.say
 
-none_bad : (operands : List Operand) (words : List (List ℕ)) (k : ℕ) → AllSpelled operands words → IsFirstBad operands words k → ⊥
-unfolding AllSpelled
-none_bad (operand ∷ operands) (word ∷ words) zero all bad = bad all.0
-none_bad (operand ∷ operands) (word ∷ words) (suc k) all bad = none_bad operands words k all.1 bad.1
-none_bad [] words k all bad = bad
-none_bad (operand ∷ operands) [] k all bad = bad
+-- where each word says a value, none is bad
+none_bad : (kinds : List Kind) (words : List (List ℕ)) (values : Values kinds) (k : ℕ) → SayAll kinds words values → IsFirstBad kinds words k → ⊥
+none_bad (kind ∷ kinds) (word ∷ words) values zero all bad = bad values.0 all.0
+none_bad (kind ∷ kinds) (word ∷ words) values (suc k) all bad = none_bad kinds words values.1 k all.1 bad.1
+none_bad [] words values k all bad = bad
+none_bad (kind ∷ kinds) [] values k all bad = bad
 
 -- one word is the first bad one
-one_bad : (operands : List Operand) (words : List (List ℕ)) (k l : ℕ) → IsFirstBad operands words k → IsFirstBad operands words l → k ≡ l
-one_bad (operand ∷ operands) (word ∷ words) zero zero p q = refl
-one_bad (operand ∷ operands) (word ∷ words) zero (suc l) p q = absurd (p q.0)
-one_bad (operand ∷ operands) (word ∷ words) (suc k) zero p q = absurd (q p.0)
-one_bad (operand ∷ operands) (word ∷ words) (suc k) (suc l) p q = ap suc (one_bad operands words k l p.1 q.1)
+one_bad : (kinds : List Kind) (words : List (List ℕ)) (k l : ℕ) → IsFirstBad kinds words k → IsFirstBad kinds words l → k ≡ l
+one_bad (kind ∷ kinds) (word ∷ words) zero zero p q = refl
+one_bad (kind ∷ kinds) (word ∷ words) zero (suc l) p q = absurd (p q.0.0 q.0.1)
+one_bad (kind ∷ kinds) (word ∷ words) (suc k) zero p q = absurd (q p.0.0 p.0.1)
+one_bad (kind ∷ kinds) (word ∷ words) (suc k) (suc l) p q = ap suc (one_bad kinds words k l p.1 q.1)
 one_bad [] words k l p q = absurd p
-one_bad (operand ∷ operands) [] k l p q = absurd p
+one_bad (kind ∷ kinds) [] k l p q = absurd p
 
--- a row of the table whose words are all spelled as they must be
-record IsWell (words : List (List ℕ)) : Type 0 where
-  operands : List Operand
-  row : IsRow words operands
-  spelled : AllSpelled operands row.rest
-
-order_well : (words : List (List ℕ)) (order : Order) → SpellsOrder words order → IsWell words
-unfolding AllSpelled
-order_well words (Best recipe target slack) s = record {
-  operands = AnyWord ∷ AnAmount ∷ AnAmount ∷ [];
-  row = record { name = codes "best"; rest = recipe.now ∷ s.0 ∷ s.1 ∷ []; command = inl (refl, refl); split = s.2; as_many = refl };
-  spelled = (tt, ((target, s.3), ((slack, s.4), tt)));
-}
-order_well words (Weigh recipe set) s = record {
-  operands = AnyWord ∷ AnyWord ∷ [];
-  row = record { name = codes "weigh"; rest = recipe.now ∷ set.now ∷ []; command = inr (refl, refl); split = s; as_many = refl };
-  spelled = (tt, (tt, tt));
-}
-
--- words are of one row
-record IsSameRow {words : List (List ℕ)} {a b : List Operand} (p : IsRow words a) (q : IsRow words b) : Type 0 where
-  operands : a ≡ b
-  rest : p.rest ≡ q.rest
-
-one_row : (words : List (List ℕ)) (a b : List Operand) (p : IsRow words a) (q : IsRow words b) → IsSameRow p q
-one_row words a b p q =
-    let same : p.name ∷ p.rest ≡ q.name ∷ q.rest = sym p.split ∙ q.split in
-    record { operands = one_command p.name q.name a b (cc same) p.command q.command; rest = cc same }
-
-well_no_fault : (words : List (List ℕ)) (error : WordError) → IsWell words → IsWordFault words error → ⊥
-well_no_fault words Usage well fault = fault well.operands well.row
-well_no_fault words (BadWord place) well fault =
-    let same = one_row words well.operands fault.0 well.row fault.1 in
-    let spelled = subst (λ (t : List Operand). AllSpelled t fault.1.rest) same.operands (subst (λ (t : List (List ℕ)). AllSpelled well.operands t) same.rest well.spelled) in
-    none_bad fault.0 fault.1.rest fault.2 spelled fault.4
+asked_no_fault : (words : List (List ℕ)) (asked : Asked) (error : WordError) → Asks words asked → IsWordFault words error → ⊥
+asked_no_fault words asked Usage p fault = fault asked.command p.fits
+asked_no_fault words asked (BadWord place) p fault =
+    of_row p.fits fault.fits (λ command operands. (k : ℕ) → IsFirstBad (row command).operands operands k → ⊥)
+    (λ k bad. none_bad (row asked.command).operands p.fits.operands asked.values k p.say bad) fault.number fault.first
 
 one_fault : (words : List (List ℕ)) (a b : WordError) → IsWordFault words a → IsWordFault words b → a ≡ b
 one_fault words Usage Usage p q = refl
-one_fault words Usage (BadWord place) p q = absurd (p q.0 q.1)
-one_fault words (BadWord place) Usage p q = absurd (q p.0 p.1)
+one_fault words Usage (BadWord place) p q = absurd (p q.command q.fits)
+one_fault words (BadWord place) Usage p q = absurd (q p.command p.fits)
 one_fault words (BadWord place) (BadWord other) p q =
-    let same = one_row words p.0 q.0 p.1 q.1 in
-    let bad = subst (λ (t : List Operand). IsFirstBad t q.1.rest p.2) same.operands (subst (λ (t : List (List ℕ)). IsFirstBad p.0 t p.2) same.rest p.4) in
-    ap BadWord (p.3 ∙ (ap (λ (k : ℕ). k + 2) (one_bad q.0 q.1.rest p.2 q.2 bad q.4) ∙ sym q.3))
-
-one_order : (words : List (List ℕ)) (a b : Order) → SpellsOrder words a → SpellsOrder words b → IsSameOrder a b
-one_order words (Best recipe target slack) (Best r t s) p q =
-    let same : codes "best" ∷ recipe.now ∷ p.0 ∷ p.1 ∷ [] ≡ codes "best" ∷ r.now ∷ q.0 ∷ q.1 ∷ [] = sym p.2 ∙ q.2 in
-    let targets : p.0 ≡ q.0 = cc same in
-    let slacks : p.1 ≡ q.1 = cc same in
-    (cc same, one_amount q.0 target t (subst (λ (w : List ℕ). SpellsAmount w target) targets p.3) q.3, one_amount q.1 slack s (subst (λ (w : List ℕ). SpellsAmount w slack) slacks p.4) q.4)
-one_order words (Weigh recipe set) (Weigh r s) p q =
-    let same : codes "weigh" ∷ recipe.now ∷ set.now ∷ [] ≡ codes "weigh" ∷ r.now ∷ s.now ∷ [] = sym p ∙ q in
-    (cc same, cc same)
-one_order words (Best recipe target slack) (Weigh r s) p q =
-    let same : codes "best" ∷ recipe.now ∷ p.0 ∷ p.1 ∷ [] ≡ codes "weigh" ∷ r.now ∷ s.now ∷ [] = sym p.2 ∙ q in
-    best_is_not_weigh (cc same)
-one_order words (Weigh recipe set) (Best r t s) p q =
-    let same : codes "best" ∷ r.now ∷ q.0 ∷ q.1 ∷ [] ≡ codes "weigh" ∷ recipe.now ∷ set.now ∷ [] = sym q.2 ∙ p in
-    best_is_not_weigh (cc same)
+    let bad = of_row p.fits q.fits (λ command operands. IsFirstBad (row command).operands operands p.number) p.first in
+    ap BadWord (p.at ∙ (ap (λ (k : ℕ). k + 2) (one_bad (row q.command).operands q.fits.operands p.number q.number bad q.first) ∙ sym q.at))
 
 pub one_meaning : OneMeaning
-one_meaning words (Ok a) (Ok b) p q = one_order words a b p q
-one_meaning words (Ok a) (Err b) p q = well_no_fault words b (order_well words a p) q
-one_meaning words (Err a) (Ok b) p q = well_no_fault words a (order_well words b q) p
+one_meaning words (Ok a) (Ok b) p q = one_asked words (asked_of a) (asked_of b) p q
+one_meaning words (Ok a) (Err b) p q = asked_no_fault words (asked_of a) b p q
+one_meaning words (Err a) (Ok b) p q = asked_no_fault words (asked_of b) a q p
 one_meaning words (Err a) (Err b) p q = one_fault words a b p q

@@ -1,41 +1,62 @@
--- The commands: their names and operands.
-use Rattle.std.specs.Prelude.{◌≡◌, ◌⊎◌, ℕ, zero, suc, List, [], ◌∷◌, length, codes}
+-- The commands: their names and operands, a line each.
+use Rattle.std.specs.Prelude.{◌≡◌, ℕ, ◌^◌, ◌<◌, ◌≤◌, List, [], ◌∷◌, Bool, false, codes}
+use Rattle.std.specs.Fmt.{decimal}
+use Rattle.seed_text.specs.SetWords.{IsSetWord}
 use Rattle.goseed_words.specs.declared.amount.Amount.{Amount}
-use Rattle.goseed_words.specs.Amounts.{SpellsAmount}
+use Rattle.goseed_words.specs.Amounts.{SpellsAmount, IsAmount}
 
--- what an operand may be: any word, which the shelf takes as a name; or an amount
-pub data Operand : Type 0 where
-  AnyWord : Operand
-  AnAmount : Operand
+-- what a byte string is read as
+pub data Form : Type 0 where
+  Recipe : Form
 
--- `best RECIPE TARGET SLACK`
-abbrev pub IsBest : List ℕ → List Operand → Type 0
-IsBest name operands = (name ≡ codes "best") × (operands ≡ AnyWord ∷ AnAmount ∷ AnAmount ∷ [])
+-- what an operand is: the name of a byte string that is read, or of one that is created; a set of files; an amount; a number
+-- up to a limit
+pub data Kind : Type 0 where
+  Reads : Form → Kind
+  Creates : Kind
+  ASet : Kind
+  AnAmount : Kind
+  ANumber : ℕ → Kind
 
--- `weigh RECIPE SET`; whether the last word is a set, the recipe tells
-abbrev pub IsWeigh : List ℕ → List Operand → Type 0
-IsWeigh name operands = (name ≡ codes "weigh") × (operands ≡ AnyWord ∷ AnyWord ∷ [])
+-- what a word of this kind says
+abbrev pub Value : Kind → Type 0
+Value (Reads form) = List ℕ
+Value Creates = List ℕ
+Value ASet = List ℕ
+Value AnAmount = Amount
+Value (ANumber limit) = ℕ
 
--- the table of commands
-abbrev pub IsCommand : List ℕ → List Operand → Type 0
-IsCommand name operands = IsBest name operands ⊎ IsWeigh name operands
+-- the numbers of a kind: up to its limit, and of 32 bits
+pub record IsUpTo (limit n : ℕ) : Type 0 where
+  pub within : n ≤ limit
+  pub small : n < 2 ^ 32
 
--- the word is spelled as the operand wants it
-abbrev pub IsSpelled : Operand → List ℕ → Type 0
-IsSpelled AnyWord word = Unit {0}
-IsSpelled AnAmount word = (amount : Amount) × SpellsAmount word amount
+-- the word says this: the shelf takes any word as a name; whether a recipe has the set, the recipe tells
+abbrev pub Says : (kind : Kind) → List ℕ → Value kind → Type 0
+Says (Reads form) word name = word ≡ name
+Says Creates word name = word ≡ name
+Says ASet word set = (word ≡ set) × IsSetWord word
+Says AnAmount word amount = SpellsAmount word amount
+Says (ANumber limit) word n = (word ≡ decimal n) × IsUpTo limit n
 
--- a command's name, and as many words as it has operands
-pub record IsRow (words : List (List ℕ)) (operands : List Operand) : Type 0 where
+-- the values that words of this kind say
+abbrev pub IsLawfulValue : (kind : Kind) → Value kind → Type 0
+IsLawfulValue (Reads form) name = Unit {0}
+IsLawfulValue Creates name = Unit {0}
+IsLawfulValue ASet set = IsSetWord set
+IsLawfulValue AnAmount amount = IsAmount amount
+IsLawfulValue (ANumber limit) n = IsUpTo limit n
+
+pub data Command : Type 0 where
+  Best : Command
+  Weigh : Command
+
+-- a command's name and operands, and whether it uses the site
+pub record Row : Type 0 where
   pub name : List ℕ
-  pub rest : List (List ℕ)
-  pub command : IsCommand name operands
-  pub split : words ≡ name ∷ rest
-  pub as_many : length rest ≡ length operands
+  pub operands : List Kind
+  pub uses_site : Bool
 
--- of the operands' words, the one with this number, from 0 on, is the first that is not spelled as it must be
-abbrev pub IsFirstBad : List Operand → List (List ℕ) → ℕ → Type 0
-IsFirstBad (operand ∷ operands) (word ∷ words) zero = ¬ IsSpelled operand word
-IsFirstBad (operand ∷ operands) (word ∷ words) (suc k) = IsSpelled operand word × IsFirstBad operands words k
-IsFirstBad [] words k = ⊥
-IsFirstBad operands [] k = ⊥
+abbrev pub row : Command → Row
+row Best = record { name = codes "best"; operands = Reads Recipe ∷ AnAmount ∷ AnAmount ∷ []; uses_site = false }
+row Weigh = record { name = codes "weigh"; operands = Reads Recipe ∷ ASet ∷ []; uses_site = false }

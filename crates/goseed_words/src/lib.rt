@@ -3,6 +3,7 @@
 
 pub mod amount;
 pub mod laws;
+mod operands;
 pub mod order;
 
 pub use amount::Amount;

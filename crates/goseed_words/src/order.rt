@@ -1,8 +1,13 @@
 // Orders, and why words mean none.
-ghost use Rattle.std.specs.Prelude.{◌∷◌, codes, IfOk};
-ghost use Rattle.goseed_words.specs.Orders.{texts, Mean, IsLawful};
+ghost use Rattle.std.specs.Prelude.{◌≡◌, ◌∷◌, codes, IfOk, IfErr};
+ghost use Rattle.goseed_words.specs.Amounts.{SpellsAmount};
+ghost use Rattle.goseed_words.specs.Asked.{IsLawful};
+ghost use Rattle.goseed_words.specs.Orders.{asked_of, texts, Means};
+ghost use Rattle.seed_text.specs.SetWords.{IsSetWord};
 
 use crate::amount::{Amount, amount_of};
+use crate::operands::{three, two};
+use seed_text::is_set_word;
 
 /// Why words mean no order.
 #[derive(Clone, Copy, Debug, PartialEq, Eq)]
@@ -31,8 +36,8 @@ pub enum Order<'w> {
 
 /// The order that words mean, the first word being the command. It takes no memory.
 pub fn order_of<'w>(words: &'w [String]) -> Result<Order<'w>, WordError>
-    ensures meaning { Mean (texts words.now) result }
-    ensures lawful { IfOk result IsLawful }
+    ensures meaning { Means (texts words.now) result }
+    ensures lawful { IfOk result (λ order. IsLawful (asked_of order)) }
 {
     let Some((command, operands)) = words.split_first() else {
         return Err(WordError::Usage);
@@ -46,20 +51,16 @@ pub fn order_of<'w>(words: &'w [String]) -> Result<Order<'w>, WordError>
 
 /// The order `best` with these operands.
 fn best_of<'w>(operands: &'w [String]) -> Result<Order<'w>, WordError>
-    ensures meaning { Mean (codes "best" ∷ texts operands.now) result }
-    ensures lawful { IfOk result IsLawful }
+    ensures meaning { Means (codes "best" ∷ texts operands.now) result }
+    ensures lawful { IfOk result (λ order. IsLawful (asked_of order)) }
 {
-    let [recipe, target, slack] = operands else {
+    let Some((recipe, target, slack)) = three(operands) else {
         return Err(WordError::Usage);
     };
-    let Some(target) = amount_of(target.as_str()) else {
-        return Err(WordError::BadWord { place: 3 });
-    };
-    let Some(slack) = amount_of(slack.as_str()) else {
-        return Err(WordError::BadWord { place: 4 });
-    };
+    let target = amount_at(3, target)?;
+    let slack = amount_at(4, slack)?;
     Ok(Order::Best {
-        recipe: recipe.as_str(),
+        recipe,
         target,
         slack,
     })
@@ -67,14 +68,36 @@ fn best_of<'w>(operands: &'w [String]) -> Result<Order<'w>, WordError>
 
 /// The order `weigh` with these operands. Which sets a recipe has, its text tells.
 fn weigh_of<'w>(operands: &'w [String]) -> Result<Order<'w>, WordError>
-    ensures meaning { Mean (codes "weigh" ∷ texts operands.now) result }
-    ensures lawful { IfOk result IsLawful }
+    ensures meaning { Means (codes "weigh" ∷ texts operands.now) result }
+    ensures lawful { IfOk result (λ order. IsLawful (asked_of order)) }
 {
-    let [recipe, set] = operands else {
+    let Some((recipe, set)) = two(operands) else {
         return Err(WordError::Usage);
     };
-    Ok(Order::Weigh {
-        recipe: recipe.as_str(),
-        set: set.as_str(),
-    })
+    let set = set_at(3, set)?;
+    Ok(Order::Weigh { recipe, set })
+}
+
+/// The amount that the word at a place spells.
+fn amount_at(place: u32, word: &str) -> Result<Amount, WordError>
+    ensures found { IfOk result (λ amount. SpellsAmount word.now amount) }
+    ensures error { IfErr result (λ error. error ≡ WordError.BadWord place) }
+    ensures none { IfErr result (λ error. (amount : Amount) → ¬ SpellsAmount word.now amount) }
+{
+    match amount_of(word) {
+        Some(amount) => Ok(amount),
+        None => Err(WordError::BadWord { place }),
+    }
+}
+
+/// The word at a place, where it may be the text of a set.
+fn set_at<'w>(place: u32, word: &'w str) -> Result<&'w str, WordError>
+    ensures found { IfOk result (λ set. (set.now ≡ word.now) × IsSetWord word.now) }
+    ensures error { IfErr result (λ error. error ≡ WordError.BadWord place) }
+    ensures none { IfErr result (λ error. ¬ IsSetWord word.now) }
+{
+    if is_set_word(word.as_bytes()) {
+        return Ok(word);
+    }
+    Err(WordError::BadWord { place })
 }

@@ -1,5 +1,5 @@
 use Rattle.std.specs.Prelude.{codes}
-use Rattle.goseed_words.proofs.OrderLemmas.{command_words}
+use Rattle.goseed_words.proofs.WordLemmas.{command_words}
 use Rattle.goseed_words.proofs.order.order_of.Goals as goal
 
 pub returns-in-best-clause-meaning : goal.returns-in-best-clause-meaning

@@ -1,0 +1,17 @@
+-- What a command reads and creates, from the values that its words say.
+use Rattle.std.proofs.Common.{◌∷◌, [], ℕ, List, refl, inl, inr}
+use Rattle.goseed_words.specs.Commands.{Form, Kind, Reads, Creates}
+use Rattle.goseed_words.specs.Asked.{Values, SayAll, HasOperand}
+
+-- one whose first operand is read
+pub first_read : (form : Form) (kinds : List Kind) (words : List (List ℕ)) (values : Values (Reads form ∷ kinds)) → SayAll (Reads form ∷ kinds) words values
+    → HasOperand (Reads form ∷ kinds) words (Reads form) values.0
+first_read form kinds (word ∷ words) values say = inl (refl, say.0)
+first_read form kinds [] values say = absurd say
+
+-- one whose second operand is created
+pub second_created : (form : Form) (kinds : List Kind) (words : List (List ℕ)) (values : Values (Reads form ∷ Creates ∷ kinds)) → SayAll (Reads form ∷ Creates ∷ kinds) words values
+    → HasOperand (Reads form ∷ Creates ∷ kinds) words Creates values.1.0
+second_created form kinds (word ∷ next ∷ words) values say = inr (inl (refl, say.1.0))
+second_created form kinds (word ∷ []) values say = absurd say.1
+second_created form kinds [] values say = absurd say

@@ -1,0 +1,25 @@
+// Words, where they are so many.
+ghost use Rattle.std.specs.Prelude.{◌≡◌, ◌≢◌, ◌∷◌, [], length, IfSome, IfNone};
+ghost use Rattle.goseed_words.specs.Orders.{texts};
+
+/// The words, where they are two.
+pub(crate) fn two<'w>(words: &'w [String]) -> Option<(&'w str, &'w str)>
+    ensures found { IfSome result (λ two. texts words.now ≡ two.0.now ∷ two.1.now ∷ []) }
+    ensures none { IfNone result (length words.now ≢ 2) }
+{
+    let [first, second] = words else {
+        return None;
+    };
+    Some((first.as_str(), second.as_str()))
+}
+
+/// The words, where they are three.
+pub(crate) fn three<'w>(words: &'w [String]) -> Option<(&'w str, &'w str, &'w str)>
+    ensures found { IfSome result (λ three. texts words.now ≡ three.0.now ∷ three.1.now ∷ three.2.now ∷ []) }
+    ensures none { IfNone result (length words.now ≢ 3) }
+{
+    let [first, second, third] = words else {
+        return None;
+    };
+    Some((first.as_str(), second.as_str(), third.as_str()))
+}
