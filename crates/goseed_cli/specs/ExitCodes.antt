@@ -1,7 +1,7 @@
 -- The exit statuses of the program.
 use Rattle.std.specs.Prelude.{ℕ}
-use Rattle.goseed_top.specs.declared.status.Status.{Status}
-use Rattle.goseed_top.specs.declared.status.Status.TheVariants.{Done, No, Unfinished, Refused, Outside, Memory}
+use Rattle.command_texts.specs.declared.status.Status.{Status}
+use Rattle.command_texts.specs.declared.status.Status.TheVariants.{Done, No, Unfinished, Refused, Outside, Memory}
 
 -- 0 and 1 answer, 2 is open, 3 refuses, 4 and 5 stopped
 abbrev pub exit_code : Status → ℕ

@@ -1,1 +1,2 @@
 pub mod ExitCodes
+pub mod Exits

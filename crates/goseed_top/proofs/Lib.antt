@@ -1,6 +1,2 @@
-pub mod CauseLemmas
-pub mod DeterminedLemmas
-pub mod ReadingLemmas
-pub mod RefusalLemmas
+pub mod CommandLemmas
 pub mod RunLemmas
-pub mod TextLemmas

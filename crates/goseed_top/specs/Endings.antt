@@ -1,57 +1,73 @@
--- How a command ends: its status and what it prints, as the words and the byte strings by name determine them.
-use Rattle.std.specs.Prelude.{◌≡◌, ◌⊎◌, ℕ, List, ◌++◌, take, Bool, true, Result, Ok, Err}
+-- How a command ends: its status, what it prints and what it leaves, as the words and what it finds determine them.
+use Rattle.std.specs.Prelude.{◌≡◌, ◌⊎◌, ℕ, List, ◌++◌, take, Bool, true, Option, option_map, Result, Ok, Err}
 use Rattle.seed_io.specs.Shelf.{Told}
 use Rattle.goseed_words.specs.declared.order.Order.{Order}
-use Rattle.goseed_words.specs.declared.order.Order.TheVariants.{Best, Weigh}
 use Rattle.goseed_words.specs.declared.order.WordError.{WordError}
 use Rattle.goseed_words.specs.declared.order.WordError.TheVariants.{Usage, BadWord}
-use Rattle.goseed_words.specs.Orders.{Mean}
-use Rattle.goseed_top.specs.declared.status.Status.{Status}
-use Rattle.goseed_top.specs.Refusals.{Refuses, usage, bad_word}
-use Rattle.goseed_top.specs.Best.{BestEnds}
-use Rattle.goseed_top.specs.Weigh.{WeighEnds}
+use Rattle.goseed_words.specs.Commands.{Command, Best, Weigh, row}
+use Rattle.goseed_words.specs.Asked.{Asked, Takes, IsCreated}
+use Rattle.goseed_words.specs.Orders.{Means, asked_of}
+use Rattle.command_texts.specs.declared.status.Status.{Status}
+use Rattle.command_endings.specs.Laws.{ends_with}
+use Rattle.command_endings.specs.Worlds.{World, Ending, Reading, OnShelf, Seen, OverWorld, EndsOver}
+use Rattle.command_texts.specs.Refusals.{Refusal, Refuses, usage, bad_word}
+use Rattle.planning_commands.specs.Endings.{best_ends, weigh_ends}
 
--- how an order ends
-abbrev pub OrderEnds : Told → Order → Status → List ℕ → Type 0
-OrderEnds given (Best recipe target slack) status text = BestEnds given recipe.now target slack status text
-OrderEnds given (Weigh recipe set) status text = WeighEnds given recipe.now set.now status text
+-- how each command ends
+abbrev pub command_ends : (command : Command) → Takes (row command).operands Ending
+command_ends Best = best_ends
+command_ends Weigh = weigh_ends
+
+-- how a command with its values ends
+abbrev pub AskedEnds : Asked → Ending
+AskedEnds asked = ends_with asked.command (command_ends asked.command) asked.values
+
+-- the refusal of words that mean no order
+abbrev pub no_order : WordError → Refusal
+no_order Usage = usage
+no_order (BadWord place) = bad_word place
 
 -- how words end that mean this: an order, or none
-abbrev pub MeaningEnds : Told → Result Order WordError → Status → List ℕ → Type 0
-MeaningEnds given (Ok order) status text = OrderEnds given order status text
-MeaningEnds given (Err Usage) status text = Refuses usage status text
-MeaningEnds given (Err (BadWord place)) status text = Refuses (bad_word place) status text
+abbrev pub MeaningEnds : Result Order WordError → Ending
+MeaningEnds (Ok order) = AskedEnds (asked_of order)
+MeaningEnds (Err error) = OnShelf (Reading (λ given. Refuses (no_order error)))
 
--- how a command with these words ends over these byte strings
-pub record Ends (given : Told) (words : List (List ℕ)) (status : Status) (text : List ℕ) : Type 0 where
+-- how a command with these words ends
+pub record Ends (words : List (List ℕ)) (found : World) (status : Status) (text : List ℕ) (left : World) : Type 0 where
   pub meaning : Result Order WordError
-  pub means : Mean words meaning
-  pub ends : MeaningEnds given meaning status text
-
--- it holds of some byte strings by name, which are the shelf's where it tells them
-pub record Over (tells : Bool) (map : Told) (Holds : Told → Type 0) : Type 0 where
-  pub given : Told
-  pub told : tells ≡ true → (name : List ℕ) → given name ≡ map name
-  pub holds : Holds given
-
--- a command with these words ends so over the shelf's byte strings
-abbrev pub EndsOver : Bool → Told → List (List ℕ) → Status → List ℕ → Type 0
-EndsOver tells map words status text = Over tells map (λ given. Ends given words status text)
+  pub means : Means words meaning
+  pub ends : MeaningEnds meaning found status text left
 
 -- the command's text was printed whole, behind what was printed before
-pub record Prints (tells : Bool) (map : Told) (words : List (List ℕ)) (status : Status) (sink_tells : Bool) (before after : List ℕ) : Type 0 where
+pub record Prints (old new : Seen) (words : List (List ℕ)) (status : Status) (sink_tells : Bool) (before after : List ℕ) : Type 0 where
   pub text : List ℕ
-  pub ends : EndsOver tells map words status text
+  pub ends : EndsOver old new (Ends words) status text
   pub taken : sink_tells ≡ true → after ≡ before ++ text
 
--- a front of a command's text was printed
-pub record PrintsFront (tells : Bool) (map : Told) (words : List (List ℕ)) (before after : List ℕ) : Type 0 where
+-- a front of a text was printed that ends the command
+pub record PrintsFront (old : Seen) (words : List (List ℕ)) (before after : List ℕ) : Type 0 where
   pub status : Status
   pub text : List ℕ
+  pub left : World
+  pub ends : OverWorld old (λ found. Ends words found status text left)
   pub count : ℕ
-  pub ends : EndsOver tells map words status text
   pub taken : after ≡ before ++ take count text
 
 -- what a command printed that was stopped: nothing, or a front of its text
-abbrev pub PrintsPart : Bool → Told → List (List ℕ) → List ℕ → List ℕ → Type 0
-PrintsPart tells map words before after = (after ≡ before) ⊎ PrintsFront tells map words before after
+abbrev pub PrintsPart : Seen → List (List ℕ) → List ℕ → List ℕ → Type 0
+PrintsPart old words before after = (after ≡ before) ⊎ PrintsFront old words before after
+
+-- behind a name that the command creates stands a front of what it leaves there
+pub record CreatesFront (old : Seen) (words : List (List ℕ)) (name : List ℕ) (now : Option (List ℕ)) : Type 0 where
+  pub created : IsCreated words name
+  pub status : Status
+  pub text : List ℕ
+  pub left : World
+  pub ends : OverWorld old (λ found. Ends words found status text left)
+  pub count : ℕ
+  pub front : now ≡ option_map (take count) (left.files name)
+
+-- what a command left, stopped or not: behind each name what was there, or where it creates the name, a front of what it
+-- leaves there
+abbrev pub LeavesPart : Seen → Told → List (List ℕ) → Type 0
+LeavesPart old new words = (name : List ℕ) → (new name ≡ old.map name) ⊎ CreatesFront old words name (new name)

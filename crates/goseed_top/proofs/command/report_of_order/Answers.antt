@@ -1,4 +1,22 @@
+use Rattle.std.proofs.lemmas.Result.{IfOk-weaker}
+use Rattle.command_endings.specs.Worlds.{Reading}
+use Rattle.command_endings.proofs.WorldLemmas.{reads, on_shelf}
+use Rattle.planning_commands.specs.Best.{BestEnds}
+use Rattle.planning_commands.specs.Weigh.{WeighEnds}
 use Rattle.goseed_top.proofs.command.report_of_order.Goals as goal
 
+pub best-requires-clause-target : goal.best-requires-clause-target
+best-requires-clause-target g c = (rw c.in-Best.is at c.requires).1.0
+
+pub best-requires-clause-slack : goal.best-requires-clause-slack
+best-requires-clause-slack g c = (rw c.in-Best.is at c.requires).1.1.0
+
 pub returns-in-Best-clause-report : goal.returns-in-Best-clause-report
-returns-in-Best-clause-report g c = rw c.in-Best.is c.best.ensures.report
+returns-in-Best-clause-report g c = rw c.in-Best.is
+    (let E = BestEnds c.in-Best.recipe.now c.in-Best.target c.in-Best.slack in
+    IfOk-weaker c.best.result _ _ (λ report over. on_shelf _ _ _ _ _ (Reading E) _ _ (reads _ _ _ E _ _ c.best.ensures.same over)) c.best.ensures.report)
+
+pub returns-in-Weigh-clause-report : goal.returns-in-Weigh-clause-report
+returns-in-Weigh-clause-report g c = rw c.in-Weigh.is
+    (let E = WeighEnds c.in-Weigh.recipe.now c.in-Weigh.set.now in
+    IfOk-weaker c.weigh.result _ _ (λ report over. on_shelf _ _ _ _ _ (Reading E) _ _ (reads _ _ _ E _ _ c.weigh.ensures.same over)) c.weigh.ensures.report)

@@ -1,0 +1,69 @@
+-- What a command finds determines how it ends, from what its bytes determine.
+use Rattle.std.proofs.Common.{◌≡◌, ◌∙◌, ℕ, List, Option, sym, inl, inr}
+use Rattle.std.specs.Prelude.{◌⊎◌}
+use Rattle.seed_io.specs.Shelf.{Told}
+use Rattle.command_texts.specs.declared.status.Status.{Status}
+use Rattle.command_texts.specs.Refusals.{Refuses, Refusal}
+use Rattle.command_endings.specs.Laws.{IsDetermined}
+use Rattle.command_endings.specs.Worlds.{ShelfEnding, Reading, Creating, OnShelf}
+use Rattle.command_endings.proofs.WorldLemmas.{same_name}
+
+-- one status and one text
+abbrev pub IsSame : Status → Status → List ℕ → List ℕ → Type 0
+IsSame one other text told = (one ≡ other) × (text ≡ told)
+
+-- one refusal
+pub record IsRefused (one other : Status) (text told : List ℕ) : Type 0 where
+  pub refusal : Refusal
+  pub first : Refuses refusal one text
+  pub second : Refuses refusal other told
+
+pub refused : (refusal : Refusal) (one other : Status) (text told : List ℕ) → Refuses refusal one text → Refuses refusal other told → IsRefused one other text told
+refused refusal one other text told p q = record { refusal = refusal; first = p; second = q }
+
+pub same_refused : (one other : Status) (text told : List ℕ) → IsRefused one other text told → IsSame one other text told
+same_refused one other text told r = (r.first.answers ∙ sym r.second.answers, r.first.prints ∙ sym r.second.prints)
+
+pub same_refusal : (refusal : Refusal) (one other : Status) (text told : List ℕ) → Refuses refusal one text → Refuses refusal other told → IsSame one other text told
+same_refusal refusal one other text told p q = (p.answers ∙ sym q.answers, p.prints ∙ sym q.prints)
+
+-- one status, one text, and one thing left behind each name
+pub record IsSameLeft (one other : Status) (text told : List ℕ) (left kept : Told) : Type 0 where
+  pub statuses : one ≡ other
+  pub texts : text ≡ told
+  pub files : (name : List ℕ) → left name ≡ kept name
+
+abbrev pub IsDeterminedOn : ShelfEnding → Type 0
+IsDeterminedOn Ends = (found : Told) (one other : Status) (text told : List ℕ) (left kept : Told) → Ends found one text left → Ends found other told kept → IsSameLeft one other text told left kept
+
+-- a command of the shelf
+pub on_shelf_determined : (Ends : ShelfEnding) → IsDeterminedOn Ends → IsDetermined (OnShelf Ends)
+on_shelf_determined Ends same found one other text told left kept p q =
+    let is = same found.files one other text told left.files kept.files p.ends q.ends in
+    record { statuses = is.statuses; texts = is.texts; files = is.files; devices = λ dev within. p.same dev within ∙ sym (q.same dev within) }
+
+-- a command that changes nothing
+pub reading_determined : (P : Told → Status → List ℕ → Type 0)
+    → ((given : Told) (one other : Status) (text told : List ℕ) → P given one text → P given other told → IsSame one other text told) → IsDeterminedOn (Reading P)
+reading_determined P same found one other text told left kept p q =
+    let is = same found one other text told p.ends q.ends in
+    record { statuses = is.0; texts = is.1; files = λ name. p.same name ∙ sym (q.same name) }
+
+-- a command that creates a name
+pub creating_determined : (name : List ℕ) (P : Told → Status → List ℕ → Option (List ℕ) → Type 0)
+    → ((given : Told) (one other : Status) (text told : List ℕ) (left kept : Option (List ℕ)) → P given one text left → P given other told kept
+    → IsRefused one other text told ⊎ (IsSame one other text told × (left ≡ kept))) → IsDeterminedOn (Creating name P)
+creating_determined name P same found one other text told left kept p q = elim (same found one other text told (left name) (kept name) p.ends q.ends) [
+  | inl r ↦ let is = same_refused one other text told r in record {
+    statuses = is.0;
+    texts = is.1;
+    files = each (p.refused r.refusal.number r.first.answers ∙ sym (q.refused r.refusal.number r.second.answers));
+  }
+  | inr is ↦ record { statuses = is.0.0; texts = is.0.1; files = each is.1 }
+]
+  where
+    each : left name ≡ kept name → (n : List ℕ) → left n ≡ kept n
+    each here n = elim (same_name n name) [
+      | inl at ↦ rw at here
+      | inr apart ↦ p.others n apart ∙ sym (q.others n apart)
+    ]

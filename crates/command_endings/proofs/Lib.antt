@@ -1,0 +1,3 @@
+pub mod CreatingLemmas
+pub mod DeterminedLemmas
+pub mod WorldLemmas

@@ -1,0 +1,4 @@
+pub mod Creating
+pub mod Laws
+pub mod Reading
+pub mod Worlds

@@ -1,0 +1,10 @@
+// How much is read.
+ghost use Rattle.std.specs.Prelude.{◌≡◌, ◌^◌};
+
+/// The most bytes of a recipe's text: 2^30.
+pub const MOST_RECIPE_BYTES: u64 = 1_073_741_824;
+
+/// The limits as numbers.
+pub fn limit_laws()
+    ensures recipe { MOST_RECIPE_BYTES ≡ 2 ^ 30 }
+{}

@@ -1,0 +1,3 @@
+pub mod HaltLemmas
+pub mod LineLemmas
+pub mod RefusalLemmas

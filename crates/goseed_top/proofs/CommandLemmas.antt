@@ -1,0 +1,80 @@
+-- Each command is lawful, and so are words: one ending, and a cause for it.
+use Rattle.std.proofs.Common.{◌≡◌, ℕ, List, refl, sym, subst, inl, inr}
+use Rattle.std.specs.Prelude.{◌⊎◌, Result, Ok, Err}
+use Rattle.goseed_words.specs.declared.order.Order.{Order}
+use Rattle.goseed_words.specs.declared.order.WordError.{WordError}
+use Rattle.goseed_words.specs.declared.order.WordError.TheVariants as word
+use Rattle.goseed_words.specs.Asked.{Asked}
+use Rattle.goseed_words.specs.Commands.{Command, Best, Weigh}
+use Rattle.goseed_words.specs.Orders.{Means, asked_of, IsSameMeaning, OneMeaning}
+use Rattle.command_texts.specs.declared.status.Status.{Status}
+use Rattle.command_texts.specs.declared.status.Status.TheVariants.{Refused, Outside, Memory}
+use Rattle.command_texts.specs.Refusals.{Refuses}
+use Rattle.command_endings.specs.Laws.{IsSameEnd, IsLawfulCommand}
+use Rattle.command_endings.specs.Worlds.{World, Seen, OverWorld, EndsOver}
+use Rattle.command_endings.proofs.DeterminedLemmas.{same_refusal, on_shelf_determined, reading_determined}
+use Rattle.command_endings.proofs.WorldLemmas.{over_weaker}
+use Rattle.planning_commands.specs.Causes.{PlanningCause}
+use Rattle.planning_commands.specs.Endings.{best_ends, weigh_ends}
+use Rattle.goseed_top.specs.Causes.{Cause, Words, Planning, WordCause, Usage, BadWord}
+use Rattle.goseed_top.specs.Determined.{OneEnding}
+use Rattle.goseed_top.specs.Endings.{AskedEnds, Ends, MeaningEnds, command_ends, no_order}
+
+-- a command of the crate of plans
+planning : (command : Command) → IsLawfulCommand PlanningCause command (command_ends command) → IsLawfulCommand Cause command (command_ends command)
+planning command law = record {
+  determined = law.determined;
+  caused = λ words values asks found left status text ends. Planning (law.caused words values asks found left status text ends);
+}
+
+-- words that mean no order are refused
+was_refused : (words : List (List ℕ)) (status : Status) → WordCause words status → (number : ℕ) × (status ≡ Refused number)
+was_refused words status (Usage fault) = (1, refl)
+was_refused words status (BadWord place fault) = (10, refl)
+
+-- no cause is that of a command that was stopped
+no_stop : (found : World) (words : List (List ℕ)) (status : Status) → Cause found words status → (status ≡ Outside) ⊎ (status ≡ Memory) → ⊥
+no_stop found words status (Words cause) (inl is) = let refused = was_refused words status cause in cc (refused.1, is)
+no_stop found words status (Words cause) (inr is) = let refused = was_refused words status cause in cc (refused.1, is)
+no_stop found words status (Planning cause) (inl is) = subst (PlanningCause found words) is cause
+no_stop found words status (Planning cause) (inr is) = subst (PlanningCause found words) is cause
+
+module _ (best : IsLawfulCommand PlanningCause Best best_ends) (weigh : IsLawfulCommand PlanningCause Weigh weigh_ends) where
+  -- each command
+  command_lawful : (command : Command) → IsLawfulCommand Cause command (command_ends command)
+  command_lawful Best = planning Best best
+  command_lawful Weigh = planning Weigh weigh
+
+  meaning_determined : (a b : Result Order WordError) → IsSameMeaning a b → (found : World) (one other : Status) (text told : List ℕ) (left kept : World)
+      → MeaningEnds a found one text left → MeaningEnds b found other told kept → IsSameEnd one other text told left kept
+  meaning_determined (Ok a) (Ok b) same found one other text told left kept p q =
+      (command_lawful (asked_of b).command).determined (asked_of b).values found one other text told left kept (subst (λ (asked : Asked). AskedEnds asked found one text left) same p) q
+  meaning_determined (Err a) (Err b) same found one other text told left kept p q =
+      on_shelf_determined _ (reading_determined (λ given. Refuses (no_order b)) (λ given o t x y c d. same_refusal (no_order b) o t x y c d)) found one other text told left kept
+      (subst (λ (error : WordError). MeaningEnds (Err error) found one text left) same p) q
+  meaning_determined (Ok a) (Err b) same found one other text told left kept p q = absurd same
+  meaning_determined (Err a) (Ok b) same found one other text told left kept p q = absurd same
+
+  pub one_ending : OneMeaning → OneEnding
+  one_ending one_meaning words found one other text told left kept p q =
+      meaning_determined p.meaning q.meaning (one_meaning words p.meaning q.meaning p.means q.means) found one other text told left kept p.ends q.ends
+
+  by_meaning : (words : List (List ℕ)) (found left : World) (status : Status) (text : List ℕ) (meaning : Result Order WordError) → Means words meaning
+      → MeaningEnds meaning found status text left → Cause found words status
+  by_meaning words found left status text (Ok order) means e = (command_lawful (asked_of order).command).caused words (asked_of order).values means found left status text e
+  by_meaning words found left status text (Err word.Usage) means e = subst (Cause found words) (sym e.ends.ends.answers) (Words (Usage means))
+  by_meaning words found left status text (Err (word.BadWord place)) means e = subst (Cause found words) (sym e.ends.ends.answers) (Words (BadWord place means))
+
+  -- the cause holds over the world that was found
+  pub over_cause : (old new : Seen) (words : List (List ℕ)) (status : Status) (text : List ℕ) → EndsOver old new (Ends words) status text
+      → OverWorld old (λ found. Cause found words status)
+  over_cause old new words status text over =
+      over_weaker old (λ found. OverWorld new (λ left. Ends words found status text left)) (λ found. Cause found words status)
+      (λ found more. let ends = more.holds.holds in
+      by_meaning words found (record { files = more.given; devices = more.holds.given }) status text ends.meaning ends.means ends.ends) over
+
+  -- a command that ends was not stopped
+  pub not_stopped : (old new : Seen) (words : List (List ℕ)) (status : Status) (text : List ℕ) → EndsOver old new (Ends words) status text → (status ≡ Outside) ⊎ (status ≡ Memory) → ⊥
+  not_stopped old new words status text over stopped =
+      let cause = over_cause old new words status text over in
+      no_stop (record { files = cause.given; devices = cause.holds.given }) words status cause.holds.holds stopped

@@ -1,7 +1,0 @@
-use Rattle.goseed_top.proofs.ReadingLemmas.{through_halt, ends_read}
-use Rattle.goseed_top.proofs.best.best.Goals as goal
-
-pub returns-in-Ok-clause-report : goal.returns-in-Ok-clause-report
-returns-in-Ok-clause-report g c =
-    let held = rw c.in-Ok.is at c.in_ok-recipe.ensures.recipe in
-    through_halt _ _ c.best_of.result c.or_halt.result c.or_halt.ensures.ok c.best_of.ensures (λ report rest. ends_read _ _ _ _ _ c.in-Ok.recipe _ held rest)

@@ -1,0 +1,64 @@
+-- How a command on plans ends has the cause of its status.
+use Rattle.std.proofs.Common.{◌∷◌, [], ℕ, List, sym, subst, inl, inr, length}
+use Rattle.recipe_reader.specs.Recipes.{RecipeValue}
+use Rattle.goseed_words.specs.declared.amount.Amount.{Amount}
+use Rattle.goseed_words.specs.Asked.{Asks, AsksToRead, Values}
+use Rattle.goseed_words.specs.Commands.{Recipe, ASet, AnAmount, Best, Weigh, row}
+use Rattle.goseed_words.proofs.OperandLemmas.{first_read}
+use Rattle.command_texts.specs.declared.status.Status.{Status}
+use Rattle.command_texts.specs.Refusals.{Refuses, Refusal, not_there, too_long, no_recipe, bad_word, too_many_files}
+use Rattle.command_endings.specs.Worlds.{World}
+use Rattle.planning_commands.specs.Best.{BestEnds, BestOf, AsksBest}
+use Rattle.planning_commands.specs.Causes.{PlanningCause, RefusalCause, NotThere, TooLong, NoRecipe, NoSet, TooManyFiles, BestDone, BestNone, WeighDone}
+use Rattle.planning_commands.specs.Reading.{HoldsRecipe, RecipeEnds}
+use Rattle.planning_commands.specs.Weigh.{WeighEnds, WeighOf, AsksWeigh}
+
+-- a refusal with its cause
+by_refusal : (found : World) (words : List (List ℕ)) (refusal : Refusal) (status : Status) (text : List ℕ) → Refuses refusal status text → RefusalCause found.files words refusal.number
+    → PlanningCause found words status
+by_refusal found words refusal status text refuses cause = subst (PlanningCause found words) (sym refuses.answers) cause
+
+-- a command that reads the recipe of a name has the cause of its status, where one that got the recipe has it
+recipe_cause : (found : World) (words : List (List ℕ)) (name : List ℕ) (status : Status) (text : List ℕ) (Rest : RecipeValue → Type 0) → AsksToRead words Recipe name
+    → ((recipe : RecipeValue) → HoldsRecipe found.files name recipe → Rest recipe → PlanningCause found words status) → RecipeEnds found.files name status text Rest → PlanningCause found words status
+recipe_cause found words name status text Rest asks rest (inl (inl lacking)) =
+    by_refusal found words (not_there name) status text lacking.refuses (NotThere (record { form = Recipe; name = name; asks = asks; lacks = lacking.lacks }))
+recipe_cause found words name status text Rest asks rest (inl (inr (inl long))) =
+    by_refusal found words (too_long name) status text long.refuses
+    (TooLong (record { form = Recipe; bytes = long.bytes; asks = record { name = name; asks = asks; held = long.held }; long = long.long }))
+recipe_cause found words name status text Rest asks rest (inl (inr (inr none))) =
+    let refused = none.refused in
+    by_refusal found words (no_recipe refused.error) status text refused.refuses
+    (NoRecipe refused.error (record { bytes = none.bytes; asks = record { name = name; asks = asks; held = none.reads.held }; fault = refused.fault }))
+recipe_cause found words name status text Rest asks rest (inr read) = rest read.recipe read.held read.rest
+
+best_cause : (found : World) (words : List (List ℕ)) (recipe : RecipeValue) (target slack : Amount) (status : Status) (text : List ℕ) → AsksBest found.files words recipe target slack
+    → BestOf target slack status text recipe → PlanningCause found words status
+best_cause found words recipe target slack status text asks (inl many) =
+    by_refusal found words (too_many_files (length recipe.files)) status text many.refuses
+    (TooManyFiles (record { recipe = recipe; target = target; slack = slack; asks = asks; many = many.many }))
+best_cause found words recipe target slack status text asks (inr all) = elim all.answer [
+  | inl best ↦ subst (PlanningCause found words) (sym best.answers)
+      (BestDone (record { recipe = recipe; target = target; slack = slack; asks = asks; few = all.few; plan = best.plan; best = best.best }))
+  | inr none ↦ subst (PlanningCause found words) (sym none.answers) (BestNone (record { recipe = recipe; target = target; slack = slack; asks = asks; few = all.few; none = none.none }))
+]
+
+weigh_cause : (found : World) (words : List (List ℕ)) (recipe : RecipeValue) (set : List ℕ) (status : Status) (text : List ℕ) → AsksWeigh found.files words recipe set
+    → WeighOf set status text recipe → PlanningCause found words status
+weigh_cause found words recipe set status text asks (inl bad) =
+    by_refusal found words (bad_word 3) status text bad.refuses (NoSet (record { recipe = recipe; word = set; asks = asks; none = bad.none }))
+weigh_cause found words recipe set status text asks (inr sums) =
+    subst (PlanningCause found words) (sym sums.answers) (WeighDone (record { recipe = recipe; word = set; asks = asks; set = sums.set; spells = sums.spells }))
+
+-- each command, from the values that its words say
+pub best_caused : (words : List (List ℕ)) (values : Values (row Best).operands) → Asks words (record { command = Best; values = values })
+    → (found : World) (status : Status) (text : List ℕ) → BestEnds values.0 values.1.0 values.1.1.0 found.files status text → PlanningCause found words status
+best_caused words values asks found status text e =
+    recipe_cause found words values.0 status text _ (record { asked = record { command = Best; values = values }; asks = asks; reads = first_read Recipe (AnAmount ∷ AnAmount ∷ []) asks.fits.operands values asks.say })
+    (λ recipe held rest. best_cause found words recipe values.1.0 values.1.1.0 status text (record { name = values.0; asks = asks; held = held }) rest) e
+
+pub weigh_caused : (words : List (List ℕ)) (values : Values (row Weigh).operands) → Asks words (record { command = Weigh; values = values })
+    → (found : World) (status : Status) (text : List ℕ) → WeighEnds values.0 values.1.0 found.files status text → PlanningCause found words status
+weigh_caused words values asks found status text e =
+    recipe_cause found words values.0 status text _ (record { asked = record { command = Weigh; values = values }; asks = asks; reads = first_read Recipe (ASet ∷ []) asks.fits.operands values asks.say })
+    (λ recipe held rest. weigh_cause found words recipe values.1.0 status text (record { name = values.0; asks = asks; held = held }) rest) e

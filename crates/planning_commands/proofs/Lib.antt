@@ -1,0 +1,4 @@
+pub mod CauseLemmas
+pub mod DeterminedLemmas
+pub mod PlanLemmas
+pub mod ReadingLemmas

@@ -1,0 +1,12 @@
+-- How each command on plans ends, by the values of its operands.
+use Rattle.goseed_words.specs.Asked.{Takes}
+use Rattle.goseed_words.specs.Commands.{Best, Weigh, row}
+use Rattle.command_endings.specs.Worlds.{Ending, Reading, OnShelf}
+use Rattle.planning_commands.specs.Best.{BestEnds}
+use Rattle.planning_commands.specs.Weigh.{WeighEnds}
+
+abbrev pub best_ends : Takes (row Best).operands Ending
+best_ends = λ recipe target slack. OnShelf (Reading (BestEnds recipe target slack))
+
+abbrev pub weigh_ends : Takes (row Weigh).operands Ending
+weigh_ends = λ recipe set. OnShelf (Reading (WeighEnds recipe set))

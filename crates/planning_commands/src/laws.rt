@@ -1,0 +1,17 @@
+// What is proved of how each command ends.
+ghost use Rattle.goseed_words.specs.Commands.{Best, Weigh};
+ghost use Rattle.command_endings.specs.Laws.{IsLawfulCommand};
+ghost use Rattle.planning_commands.specs.Causes.{PlanningCause};
+ghost use Rattle.planning_commands.specs.Endings.{best_ends, weigh_ends};
+
+use recipe_reader::recipe_laws;
+use seed_text::set_text_laws;
+
+/// How a command on plans ends is determined by its words and the byte strings that it finds, and has a cause.
+pub fn planning_laws()
+    ensures best { IsLawfulCommand PlanningCause Best best_ends }
+    ensures weigh { IsLawfulCommand PlanningCause Weigh weigh_ends }
+{
+    recipe_laws();
+    set_text_laws();
+}
