@@ -1,0 +1,9 @@
+//! Tests of the crates that move files: shelves, sinks, devices and logs.
+#![tactic(auto)]
+
+#[cfg(test)]
+mod devices;
+#[cfg(test)]
+mod shelves;
+#[cfg(test)]
+mod two_racks;
