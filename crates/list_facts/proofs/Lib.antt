@@ -2,6 +2,7 @@ pub mod ByKey
 pub mod FirstAppearance
 pub mod FirstParts
 pub mod Grouped
+pub mod Joined
 pub mod Laid
 pub mod Numbering
 pub mod Starts
