@@ -50,7 +50,7 @@ pub spelled_apart : (m n : ℕ) → m < 10 ^ 64 → n < 10 ^ 64 → decimal m �
 spelled_apart m n p q e = sym (decimal_is_IsNumeral_wide m p).1 ∙ ap (digits_value 10) e ∙ (decimal_is_IsNumeral_wide n q).1
 
 -- a text has a first byte above `0`, or is one digit
-pub record IsLed (n : ℕ) (ds : List ℕ) : Type 0 where
+pub record BeginsAsNumber (n : ℕ) (ds : List ℕ) : Type 0 where
   pub some : 0 < length ds
   pub lead : 0 < n → 48 < get_or ds 0 0
   pub zero : n ≡ 0 → length ds ≡ 1
@@ -59,9 +59,9 @@ first_append : (ds es : List ℕ) → 0 < length ds → get_or (ds ++ es) 0 0 �
 first_append [] es h = absurd (omega arith)
 first_append (d ∷ ds) es h = refl
 
--- the spelling of a number is led so
-pub led : (n : ℕ) → n < 10 ^ 64 → IsLed n (decimal n)
-led = decimal_by_steps_wide IsLed
+-- the spelling of a number begins so
+pub begun : (n : ℕ) → n < 10 ^ 64 → BeginsAsNumber n (decimal n)
+begun = decimal_by_steps_wide BeginsAsNumber
     (λ n small. record { some = omega arith; lead = λ h. omega arith; zero = λ h. refl })
     (λ n ds big h. record {
       some = omega (arith, length-append ds ((48 + n % 10) ∷ []), h.some);
@@ -131,7 +131,7 @@ room_next (suc k) rest some room =
     (omega arith, rw less (omega (arith, p, room)))
 
 -- a first byte `0` is that of zero
-not_first : (n : ℕ) (ds : List ℕ) → IsLed n ds → get_or ds 0 0 ≡ 48 → n ≡ 0
+not_first : (n : ℕ) (ds : List ℕ) → BeginsAsNumber n ds → get_or ds 0 0 ≡ 48 → n ≡ 0
 not_first zero ds l z = refl
 not_first (suc k) ds l z = absurd (omega (arith, l.lead (omega arith), z))
 
@@ -146,7 +146,7 @@ pow_ten i (suc j) =
 pub is_numeral : (text : List ℕ) (n : ℕ) → n < 10 ^ 64 → text ≡ decimal n → IsNumeral text × (length text ≤ 64)
 is_numeral text n small e =
     let k = decimal_is_IsNumeral_wide n small in
-    let l = led n small in
+    let l = begun n small in
     let numeral : IsNumeral (decimal n) = record {
       some = k.0.0;
       digits = by_test.from (decimal n) k.0.1;
@@ -165,8 +165,8 @@ spelled_by text h short =
     (digits_value 10 text, small, sym (spell_value text d h.some h.leading small))
 
 -- a text that is no numeral of a number below 10 ^ 64 spells none
-pub unled_spells_none : (text : List ℕ) → ¬ ((0 < length text) × (get_or text 0 0 ≡ 48 → length text ≡ 1)) → (n : ℕ) → n < 10 ^ 64 → ¬ (text ≡ decimal n)
-unled_spells_none text unled n small e = let h = is_numeral text n small e in unled (h.0.some, h.0.leading)
+pub spells_none_unless_begun : (text : List ℕ) → ¬ ((0 < length text) × (get_or text 0 0 ≡ 48 → length text ≡ 1)) → (n : ℕ) → n < 10 ^ 64 → ¬ (text ≡ decimal n)
+spells_none_unless_begun text unled n small e = let h = is_numeral text n small e in unled (h.0.some, h.0.leading)
 
 -- a text that spells a number is digits with that value
 pub value_of_spelling : (text : List ℕ) (n : ℕ) → n < 10 ^ 64 → text ≡ decimal n → AllDigits 10 text × (digits_value 10 text ≡ n)

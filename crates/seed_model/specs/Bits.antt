@@ -16,5 +16,5 @@ abbrev pub bits_of : ℕ → List ℕ → List Bool
 bits_of n words = bits_from words 0 n
 
 -- a word for each 64 files
-abbrev pub HasRoom : ℕ → List ℕ → Type 0
-HasRoom n words = n ≤ 64 * length words
+abbrev pub HasWords : ℕ → List ℕ → Type 0
+HasWords n words = n ≤ 64 * length words

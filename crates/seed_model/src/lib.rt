@@ -17,7 +17,7 @@ pub use limits::limit_laws;
 pub use memory::NoMemory;
 pub use node::{Mix, Node, node_laws, undecided};
 pub use numbers::{number_laws, read_number, write_number};
-pub use plan_set::{PlanSet, first_difference};
+pub use plan_set::{PlanSet, are_apart, first_difference, is_within};
 pub use range::{Range, range_of};
 pub use sums::{in_range, migrated, replicated, sum_laws, touched};
 pub use table::{Class, Table, Users};

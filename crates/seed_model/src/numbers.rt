@@ -16,7 +16,7 @@ pub fn read_number(text: &[u8], limit: u128) -> Option<u128>
     ensures only { IfSome result (λ n. (other : ℕ) → other < 2 ^ 128 → text.now ≡ decimal other → other ≡ n) }
     ensures none { IfNone result ((n : ℕ) → text.now ≡ decimal n → limit < n) }
 {
-    if !is_led(text) {
+    if !begins_as_number(text) {
         return None;
     }
     let Some(number) = read_digits(text) else {
@@ -29,14 +29,45 @@ pub fn read_number(text: &[u8], limit: u128) -> Option<u128>
 }
 
 // Whether the text has a first byte, which is a zero only where it is the last.
-fn is_led(text: &[u8]) -> bool
+fn begins_as_number(text: &[u8]) -> bool
     ensures { IsTrue result ↔ ((0 < length text.now) × (slice_index text.now 0 ≡ 48 → length text.now ≡ 1)) }
 {
     text.len() == 1 || (text.len() > 1 && text[0] != b'0')
 }
 
-// The number that digits stand for, with any leading zeros.
+// The number that digits stand for, with any leading zeros. Most are below 2^64, where arithmetic is quick.
 fn read_digits(text: &[u8]) -> Option<u128>
+    ensures found { IfSome result (λ n. AllDigits 10 text.now × (n ≡ digits_value 10 text.now)) }
+    ensures none { IfNone result (AllDigits 10 text.now → 2 ^ 128 ≤ digits_value 10 text.now) }
+{
+    match read_short_digits(text) {
+        Some(number) => Some(number as u128),
+        None => read_long_digits(text),
+    }
+}
+
+// The same, where the number is below 2^64; else perhaps none.
+fn read_short_digits(text: &[u8]) -> Option<u64>
+    ensures { IfSome result (λ n. AllDigits 10 text.now × (n ≡ digits_value 10 text.now)) }
+{
+    let mut number: u64 = 0;
+    for byte in text {
+        if !byte.is_ascii_digit() {
+            return None;
+        }
+        let Some(tens) = number.checked_mul(10) else {
+            return None;
+        };
+        let Some(next) = tens.checked_add((*byte - b'0') as u64) else {
+            return None;
+        };
+        number = next;
+    }
+    Some(number)
+}
+
+// The same as `read_digits`, of any digits.
+fn read_long_digits(text: &[u8]) -> Option<u128>
     ensures found { IfSome result (λ n. AllDigits 10 text.now × (n ≡ digits_value 10 text.now)) }
     ensures none { IfNone result (AllDigits 10 text.now → 2 ^ 128 ≤ digits_value 10 text.now) }
 {

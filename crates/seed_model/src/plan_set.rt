@@ -1,7 +1,8 @@
 // Sets of files, one bit a file.
-ghost use Rattle.std.specs.Prelude.{◌≡◌, ◌≢◌, ◌+◌, ◌*◌, ◌<◌, IfNone, IfOk, IfSome, slice_set, replicate, length, true, false};
+ghost use Rattle.std.specs.Prelude.{◌≡◌, ◌≢◌, ◌+◌, ◌*◌, ◌<◌, ◌↔◌, IfNone, IfOk, IfSome, IsTrue, slice_set, replicate, length, true, false};
 ghost use Rattle.seed_model.specs.Files.{holds};
-ghost use Rattle.seed_model.specs.Differences.{AgreesWithin, IsFirstDifference};
+ghost use Rattle.seed_model.specs.Differences.{AgreesWithin, AreApart, ClearsWithin, IsFirstDifference};
+ghost use Rattle.seed_model.specs.SumLaws.{IsWithin};
 
 use crate::memory::NoMemory;
 use std::alloc::Global;
@@ -16,13 +17,13 @@ pub struct PlanSet {
 
 impl Model for PlanSet {
     ghost use Rattle.std.specs.Prelude.{List, Bool};
-    ghost use Rattle.seed_model.specs.Bits.{bits_of, HasRoom};
+    ghost use Rattle.seed_model.specs.Bits.{bits_of, HasWords};
 
     ghost Value = { List Bool };
 
     ghost view = { λ s. bits_of s.files s.words.items };
 
-    ghost invariant = { λ s. HasRoom s.files s.words.items };
+    ghost invariant = { λ s. HasWords s.files s.words.items };
 }
 
 impl PlanSet {
@@ -96,6 +97,69 @@ impl PlanSet {
     {
         self.words[word as usize] == other.words[word as usize]
     }
+
+    /// Whether no bit of a word is in this set and, where `inside`, also in another of as many files, else outside it.
+    fn clears_word(&self, other: &PlanSet, word: u32, inside: bool) -> bool
+        requires same { length self.now ≡ length other.now }
+        requires within { 64 * word < length self.now }
+        ensures { result ≡ true → ClearsWithin (64 * word) (64 * word + 64) inside self.now other.now }
+    {
+        let mine = self.words[word as usize];
+        let theirs = other.words[word as usize];
+        if inside {
+            mine & theirs == 0
+        } else {
+            mine & theirs == mine
+        }
+    }
+}
+
+/// Whether no file is in both of two sets of the same number of files.
+pub fn are_apart(one: &PlanSet, other: &PlanSet) -> bool
+    requires { length one.now ≡ length other.now }
+    ensures { IsTrue result ↔ AreApart (length one.now) (holds one.now) (holds other.now) }
+{
+    clears(one, other, true)
+}
+
+/// Whether each file of a set is in another of the same number of files.
+pub fn is_within(inner: &PlanSet, outer: &PlanSet) -> bool
+    requires { length inner.now ≡ length outer.now }
+    ensures { IsTrue result ↔ IsWithin (length inner.now) (holds inner.now) (holds outer.now) }
+{
+    clears(inner, outer, false)
+}
+
+/// Whether no file is in the one set and, where `inside`, also in the other, else outside it.
+fn clears(one: &PlanSet, other: &PlanSet, inside: bool) -> bool
+    requires { length one.now ≡ length other.now }
+    ensures { IsTrue result ↔ ClearsWithin 0 (length one.now) inside one.now other.now }
+{
+    for word in 0..one.files().div_ceil(64) {
+        if !one.clears_word(other, word, inside) && !clears_files(one, other, word, inside) {
+            return false;
+        }
+    }
+    true
+}
+
+/// The same of the files of one word.
+fn clears_files(one: &PlanSet, other: &PlanSet, word: u32, inside: bool) -> bool
+    requires same { length one.now ≡ length other.now }
+    requires within { 64 * word < length one.now }
+    ensures clear { result ≡ true → ClearsWithin (64 * word) (64 * word + 64) inside one.now other.now }
+    ensures met { result ≡ false → ClearsWithin 0 (length one.now) inside one.now other.now → ⊥ }
+{
+    let files = one.files();
+    let first = 64 * word;
+    let count = (files - first).min(64);
+    for place in 0..count {
+        let file = first + place;
+        if one.contains(file) && other.contains(file) == inside {
+            return false;
+        }
+    }
+    true
 }
 
 /// The first file that is in exactly one of two sets of the same number of files; None where the sets are equal.

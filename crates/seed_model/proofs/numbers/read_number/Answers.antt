@@ -1,10 +1,10 @@
 use Rattle.std.proofs.Common.{arith, refl, sym}
-use Rattle.seed_model.proofs.Decimals.{spells_past, spell_value, value_of_spelling, unled_spells_none}
+use Rattle.seed_model.proofs.Decimals.{spells_past, spell_value, value_of_spelling, spells_none_unless_begun}
 use Rattle.seed_model.proofs.numbers.read_number.Goals as goal
 
-pub returns-then-not-is_led-clause-none : goal.returns-then-not-is_led-clause-none
-returns-then-not-is_led-clause-none c = spells_past c.args.text.now c.args.limit (omega arith)
-    (λ n small e. absurd (unled_spells_none c.args.text.now (λ h. let no = c.if-not-is_led.ensures.1 h in cc) n small e))
+pub returns-then-not-begins_as_number-clause-none : goal.returns-then-not-begins_as_number-clause-none
+returns-then-not-begins_as_number-clause-none c = spells_past c.args.text.now c.args.limit (omega arith)
+    (λ n small e. absurd (spells_none_unless_begun c.args.text.now (λ h. let no = c.if-not-begins_as_number.ensures.1 h in cc) n small e))
 
 pub returns-in_default-clause-none : goal.returns-in_default-clause-none
 returns-in_default-clause-none c = spells_past c.args.text.now c.args.limit (omega arith)
@@ -17,9 +17,9 @@ returns-then-number-limit-clause-none c = spells_past c.args.text.now c.args.lim
 
 pub returns-clause-found : goal.returns-clause-found
 returns-clause-found c =
-    let led = c.if-not-is_led.ensures.0 refl in
+    let begun = c.if-not-begins_as_number.ensures.0 refl in
     let read = c.in-Some.ensures.found in
-    let spelled = spell_value c.args.text.now read.0 led.0 led.1 (omega (arith, read.1)) in
+    let spelled = spell_value c.args.text.now read.0 begun.0 begun.1 (omega (arith, read.1)) in
     (sym (rw (← read.1) at spelled), omega arith)
 
 pub returns-clause-only : goal.returns-clause-only

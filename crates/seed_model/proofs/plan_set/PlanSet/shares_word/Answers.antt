@@ -1,22 +1,22 @@
 use Rattle.std.proofs.Common.{◌≡◌, ◌∙◌, ◌<◌, ap, arith, false, get_or, length, sym}
 use Rattle.std.proofs.lemmas.Bool.{eqb-true}
-use Rattle.seed_model.proofs.BitSets.{length-bits_from, word-agrees}
+use Rattle.seed_model.proofs.BitSets.{length-set_of, word-agrees}
 use Rattle.seed_model.proofs.plan_set.PlanSet.shares_word.Goals as goal
 
 pub index-requires : goal.index-requires
 index-requires c =
-    let len : length c.args.self.now ≡ c.self.inside.files = ap length (sym c.self.view_is) ∙ length-bits_from c.self.inside.words.items 0 c.self.inside.files in
+    let len : length c.args.self.now ≡ c.self.inside.files = length-set_of c.args.self.now c.self.inside.files c.self.inside.words.items c.self.view_is in
     omega (arith, c.self.invariant, c.requires.within, len, c.self.inside.words.ok)
 
 pub index-requires-2 : goal.index-requires-2
 index-requires-2 c =
-    let len : length c.args.other.now ≡ c.other.inside.files = ap length (sym c.other.view_is) ∙ length-bits_from c.other.inside.words.items 0 c.other.inside.files in
+    let len : length c.args.other.now ≡ c.other.inside.files = length-set_of c.args.other.now c.other.inside.files c.other.inside.words.items c.other.view_is in
     omega (arith, c.other.invariant, c.requires.within, c.requires.same, len, c.other.inside.words.ok)
 
 pub returns : goal.returns
 returns c =
-    let one : length c.args.self.now ≡ c.self.inside.files = ap length (sym c.self.view_is) ∙ length-bits_from c.self.inside.words.items 0 c.self.inside.files in
-    let two : length c.args.other.now ≡ c.other.inside.files = ap length (sym c.other.view_is) ∙ length-bits_from c.other.inside.words.items 0 c.other.inside.files in
+    let one : length c.args.self.now ≡ c.self.inside.files = length-set_of c.args.self.now c.self.inside.files c.self.inside.words.items c.self.view_is in
+    let two : length c.args.other.now ≡ c.other.inside.files = length-set_of c.args.other.now c.other.inside.files c.other.inside.words.items c.other.view_is in
     let inside : c.args.word < length c.self.inside.words.items = omega (arith, c.self.invariant, c.requires.within, one) in
     let inside2 : c.args.word < length c.other.inside.words.items = omega (arith, c.other.invariant, c.requires.within, c.requires.same, two) in
     λ same file low high.
