@@ -2,4 +2,5 @@ pub mod Ends
 pub mod Flexible
 pub mod Mark
 pub mod Next
+pub mod PlainRows
 pub mod Written

@@ -6,6 +6,7 @@ use Rattle.csv.specs.declared.reader.Reader.{Reader}
 use Rattle.std.specs.Prelude.{not, ◌&&◌, ◌==◌}
 use Rattle.std.proofs.lemmas.Bool.{cases_Bool}
 use Rattle.csv_rows.specs.Left.{rows_from, rows_left, IsBetween}
+use Rattle.csv_rows.specs.Rows.{rows_of}
 use Rattle.csv.specs.declared.parser.State.{State}
 use Rattle.csv.specs.declared.parser.State.TheVariants as st
 use Rattle.csv_rows.proofs.Ends.{next-leaves}
@@ -18,7 +19,7 @@ unfolding records_from
 turn n m s xs None h same = rw h refl
 turn n m s xs (Some p) h same = rw h (ap (λ (t : List (List (List ℕ))). p.0 ∷ t) (same p refl))
 
-enough : (n m : ℕ) (s : State) (xs : List ℕ) → ends_at_end s ≡ false → length xs < n → length xs < m → records_from default_config n s xs ≡ records_from default_config m s xs
+pub enough : (n m : ℕ) (s : State) (xs : List ℕ) → ends_at_end s ≡ false → length xs < n → length xs < m → records_from default_config n s xs ≡ records_from default_config m s xs
 enough zero m s xs e a b = absurd (omega arith)
 enough (suc n) zero s xs e a b = absurd (omega arith)
 enough (suc n) (suc m) s xs e a b =
@@ -93,7 +94,7 @@ shorter (a ∷ []) = omega arith
 shorter (a ∷ b ∷ []) = omega arith
 shorter (a ∷ b ∷ c ∷ rest) = elim (cases_Bool (is_bom a b c)) [ inl t ↦ rw t (omega arith) | inr f ↦ rw f (omega arith) ]
 
-pub few_rows : (r : Reader (Bor (List ℕ))) (text : List ℕ) → r.state ≡ st.StartRecord → source_of (λ s. Some s.now) r ≡ Some (strip_bom text) → length (rows_left (λ s. Some s.now) r) ≤ length text
-few_rows r text start source =
+pub few_text : (text : List ℕ) → length (rows_of text) ≤ length text
+few_text text =
     let all = few_from (length (strip_bom text) + 1) st.StartRecord (strip_bom text) (next_record default_config st.StartRecord [] [] (strip_bom text)) refl refl in
-    rw (start, source) (omega (arith, all, shorter text))
+    omega (arith, all, shorter text)

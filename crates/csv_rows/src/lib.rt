@@ -2,6 +2,7 @@
 #![tactic(auto)]
 
 pub mod facts;
+mod plain;
 pub mod reader;
 pub mod writer;
 

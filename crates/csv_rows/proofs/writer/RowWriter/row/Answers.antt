@@ -1,4 +1,4 @@
-use Rattle.std.specs.Prelude.{map, true, [], if◌then◌else◌, Option, Some, None}
+use Rattle.std.specs.Prelude.{map, true, if◌then◌else◌, Option, Some, None}
 use Rattle.std.proofs.Common.{◌≡◌, ◌∙◌, ◌++◌, ap, sym, Bool, List, ℕ}
 use Rattle.csv.specs.Writing.{default_writer, row_text}
 use Rattle.csv.specs.declared.writer.WriterBuilder.{WriterBuilder}
