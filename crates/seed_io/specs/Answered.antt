@@ -31,11 +31,6 @@ kind_text last kind.Unended = Unended
 abbrev pub kind_line : List ℕ → Option Kind → Option LineText
 kind_line last given = option_map (kind_text last) given
 
--- an answer, by its kind and the last whole line
-abbrev pub kind_answer : List ℕ → Result (Option Kind) LineError → Result (Option LineText) LineError
-kind_answer last (Ok given) = Ok (kind_line last given)
-kind_answer last (Err error) = Err error
-
 -- the lines that a reading has still to give, where these bytes follow those that it holds
 abbrev pub lines_behind : Reading → List ℕ → List LineText
 lines_behind r more = if r.over then [] else lines_of (r.held ++ more)

@@ -4,7 +4,7 @@ ghost use Rattle.std.specs.Borrow.{sem};
 ghost use Rattle.std.specs.Io.BufRead.{Rests};
 ghost use Rattle.fault_count.specs.Counts.{HasCause, HandsOn};
 ghost use Rattle.seed_io.specs.Ahead.{IsLonger};
-ghost use Rattle.seed_io.specs.Answered.{Shows, SamePlace, ReadsOn, EndsWithin, line_error, line_answer, kind_answer, kind_line, lines_behind};
+ghost use Rattle.seed_io.specs.Answered.{Shows, SamePlace, ReadsOn, EndsWithin, line_error, line_answer, kind_line, lines_behind};
 ghost use Rattle.seed_io.specs.Lines.{StandsIn, GivesLine, NextLine, IsFull, lines_of, listed, line_size};
 ghost use Rattle.seed_io.specs.Shelf.{GaveMore};
 ghost use Rattle.seed_io.specs.contracts.lines.Lines.{the_row};
@@ -218,28 +218,6 @@ impl Lines {
         }
     }
 
-    /// Moves behind the next line, and says what it is.
-    fn advance<F: Shelf>(&mut self, shelf: &mut F) -> Result<Option<Kind>, LineError>
-        ensures next { NextLine (F.tells shelf.old) (F.map shelf.old) self.old self.new (kind_answer self.new.last result) }
-        ensures there { F.tells shelf.old ≡ true → self.old.held ≡ [] → self.old.over ≡ false → OnOk result (IsSome (F.map shelf.old self.old.name)) }
-        ensures lacks { F.tells shelf.old ≡ true → IsErrOf result LineError.NotThere → F.map shelf.old self.old.name ≡ None }
-        ensures long { IsErrOf result LineError.TooLong → GaveMore (F.tells shelf.old) (F.map shelf.old) self.old.name self.old.limit }
-        ensures cause { HandsOn LineError.Fault (F.faults shelf.old) (F.faults shelf.new) result }
-        ensures tells { F.tells shelf.new ≡ F.tells shelf.old }
-        ensures map { F.map shelf.new ≡ F.map shelf.old }
-    {
-        if self.is_over {
-            return Ok(None);
-        }
-        match self.read_line(shelf) {
-            Ok(shown) => Ok(self.settle(shown)),
-            Err(error) => {
-                self.is_over = true;
-                Err(error)
-            }
-        }
-    }
-
     /// The last whole line, without its LF.
     fn last_line(&self) -> &[u8]
         ensures { result.now ≡ self.now.last }
@@ -260,7 +238,17 @@ impl Lines {
         ensures tells { F.tells shelf.new ≡ F.tells shelf.old }
         ensures map { F.map shelf.new ≡ F.map shelf.old }
     {
-        match self.advance(shelf)? {
+        if self.is_over {
+            return Ok(None);
+        }
+        let shown = match self.read_line(shelf) {
+            Ok(shown) => shown,
+            Err(error) => {
+                self.is_over = true;
+                return Err(error);
+            }
+        };
+        match self.settle(shown) {
             None => Ok(None),
             Some(Kind::Wide) => Ok(Some(Line::Wide)),
             Some(Kind::Unended) => Ok(Some(Line::Unended)),
