@@ -1,2 +1,3 @@
 pub mod SetBits
+pub mod SetDigitLemmas
 pub mod SetWordLemmas

@@ -1,7 +1,6 @@
 -- The bits of the bytes of a set.
 use Rattle.std.specs.Prelude.{◌==◌, if◌then◌else◌}
-use Rattle.std.proofs.Common.{◌≡◌, ◌∙◌, ◌+◌, ◌-◌, ◌*◌, ◌/◌, ◌%◌, ◌^◌, ◌<◌, ◌≤◌, ◌∷◌, [], ℕ, zero, suc, List, Bool, true, false, refl, sym, ap, length, get_or, inl, inr, arith, replicate, Ok, not, nat_eq, eq-eqb}
-use Rattle.std.specs.Cmp.Lexicographic.{pointwise}
+use Rattle.std.proofs.Common.{◌≡◌, ◌∙◌, ◌+◌, ◌-◌, ◌*◌, ◌/◌, ◌%◌, ◌^◌, ◌<◌, ◌≤◌, ◌∷◌, [], ℕ, zero, suc, List, Bool, true, false, refl, sym, ap, length, get_or, inl, inr, arith, Ok}
 use Rattle.std.proofs.lemmas.List.{ext_get_or}
 use Rattle.std.proofs.lemmas.List.FromFn.{get_or-map-range_with_len, length-map-range_with_len}
 use Rattle.std.proofs.lemmas.Bool.{cases_lt}
@@ -116,7 +115,7 @@ byte_bit s j (suc (suc (suc (suc (suc (suc (suc zero))))))) lt = bit-test (holds
 byte_bit s j (suc (suc (suc (suc (suc (suc (suc (suc i)))))))) lt = absurd (omega arith)
 
 -- the byte of a set at a place
-byte_at : (s : List Bool) (j : ℕ) → j < byte_count (length s) → get_or (set_bytes s) j 0 ≡ set_byte s j
+pub byte_at : (s : List Bool) (j : ℕ) → j < byte_count (length s) → get_or (set_bytes s) j 0 ≡ set_byte s j
 byte_at s j lt = get_or-map-range_with_len (set_byte s) 0 (byte_count (length s)) j j 0 lt (omega arith)
 
 pub length-set_bytes : (s : List Bool) → length (set_bytes s) ≡ byte_count (length s)
@@ -138,40 +137,23 @@ past_end (x ∷ xs) zero h = absurd (omega arith)
 past_end (x ∷ xs) (suc i) h = past_end xs i (omega arith)
 
 -- the bytes of a set are bytes
-are_bytes : (s : List Bool) → IsBytes (set_bytes s)
+pub are_bytes : (s : List Bool) → IsBytes (set_bytes s)
 are_bytes s i = elim (cases_lt i (byte_count (length s))) [
   | inl lt ↦ rw (byte_at s i lt) (byte_small s i)
   | inr ge ↦ rw (past_end (set_bytes s) i (omega (arith, length-set_bytes s))) (omega arith)
 ]
 
 -- sets whose bytes tell the same files are one set
-pub same_told : (a b : List Bool) (bytes : List ℕ) → length a ≡ length b → ((f : ℕ) → f < length a → holds a f ≡ has_file bytes f) → bytes ≡ set_bytes b → a ≡ b
+same_told : (a b : List Bool) (bytes : List ℕ) → length a ≡ length b → ((f : ℕ) → f < length a → holds a f ≡ has_file bytes f) → bytes ≡ set_bytes b → a ≡ b
 same_told a b bytes len told e = ext_get_or false a b len (λ f lt. told f lt ∙ ap (λ (l : List ℕ). has_file l f) e ∙ bytes_tell b f (omega (arith, len)))
 
--- a set of no files
-pub no_bytes : (s : List Bool) → length s ≡ 0 → [] ≡ set_bytes s
-no_bytes [] e = refl
-no_bytes (x ∷ xs) e = absurd (omega arith)
-
 -- the text of a set of some files
-text_of : (s : List Bool) → 0 < length s → set_text s ≡ encode_lower (set_bytes s)
-text_of s h = let some : (length s == 0) ≡ false = grind (arith, nat_tests) in rw some refl
+pub text_is : (s : List Bool) → 0 < length s → set_text s ≡ encode_lower (set_bytes s)
+text_is s h = let some : (length s == 0) ≡ false = grind (arith, nat_tests) in rw some refl
 
 -- the text of a set of some files is hex for its bytes
 pub text_decodes : (s : List Bool) → 0 < length s → decode_of (set_text s) ≡ Ok (set_bytes s)
-text_decodes s h = rw (text_of s h) (decode_of-encode_lower (set_bytes s) (are_bytes s))
-
--- what a text that is a set's decodes to
-pub decoded : (text : List ℕ) (files : ℕ) (s : List Bool) → 0 < files → length s ≡ files → text ≡ set_text s → decode_of text ≡ Ok (set_bytes s)
-decoded text files s some len e = ap decode_of e ∙ text_decodes s (omega (arith, len))
-
--- so its bytes are the set's
-pub decoded_bytes : (text bytes : List ℕ) (files : ℕ) (s : List Bool) → 0 < files → decode_of text ≡ Ok bytes → length s ≡ files → text ≡ set_text s → bytes ≡ set_bytes s
-decoded_bytes text bytes files s some d len e = decode_of-same text bytes (set_bytes s) d (decoded text files s some len e)
-
--- and as many
-pub decoded_count : (text bytes : List ℕ) (files : ℕ) (s : List Bool) → 0 < files → decode_of text ≡ Ok bytes → length s ≡ files → text ≡ set_text s → length bytes ≡ byte_count files
-decoded_count text bytes files s some d len e = ap length (decoded_bytes text bytes files s some d len e) ∙ (length-set_bytes s ∙ ap byte_count len)
+text_decodes s h = rw (text_is s h) (decode_of-encode_lower (set_bytes s) (are_bytes s))
 
 -- one text, one set
 pub one_spelling : (a b : List Bool) → length a ≡ length b → set_text a ≡ set_text b → a ≡ b
@@ -182,18 +164,3 @@ one_spelling (x ∷ a) b len e =
     let db = text_decodes b (omega (arith, len)) in
     same_told (x ∷ a) b (set_bytes (x ∷ a)) len (λ f lt. sym (bytes_tell (x ∷ a) f lt))
     (decode_of-same (set_text (x ∷ a)) (set_bytes (x ∷ a)) (set_bytes b) da (ap decode_of e ∙ db))
-
--- no file is in the empty set
-pub none_holds : (n k : ℕ) → holds (replicate n false) k ≡ false
-none_holds zero k = refl
-none_holds (suc n) zero = refl
-none_holds (suc n) (suc k) = none_holds n k
-
--- a text is like itself
-like_itself : (xs : List ℕ) → pointwise nat_eq xs xs ≡ true
-like_itself [] = refl
-like_itself (x ∷ xs) = rw (eq-eqb x x refl) (like_itself xs)
-
--- equal texts are not told apart
-pub not_different : (xs ys : List ℕ) → xs ≡ ys → true ≡ not (pointwise nat_eq xs ys) → ⊥
-not_different xs ys e told = let like : pointwise nat_eq xs ys ≡ true = rw e (like_itself ys) in cc

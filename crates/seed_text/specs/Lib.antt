@@ -1,2 +1,3 @@
+pub mod SetDigits
 pub mod SetTexts
 pub mod SetWords

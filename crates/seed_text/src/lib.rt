@@ -7,7 +7,7 @@ pub mod read;
 pub mod set_word;
 pub mod write;
 
-pub use read::read_set;
+pub use read::{fill_set, read_set};
 pub use set_word::{is_set_word, set_word_laws};
 pub use write::write_set;
 

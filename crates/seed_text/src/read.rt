@@ -1,11 +1,9 @@
 // Sets of files from text.
-ghost use Rattle.std.specs.Prelude.{◌≡◌, ◌≢◌, ◌/◌, ◌<◌, ◌≤◌, ℕ, List, Bool, Ok, length, slice_set, IfOk, IfSome, IfNone, true, if◌then◌else◌};
-ghost use Rattle.hex.specs.Hex.{decode_of};
+ghost use Rattle.std.specs.Prelude.{◌≡◌, ◌≢◌, ◌+◌, ◌*◌, ◌<◌, ◌≤◌, ◌^◌, ◌↔◌, ℕ, List, Bool, length, IfOk, IfSome, IfNone, IsTrue, true, false};
 ghost use Rattle.seed_model.specs.Files.{holds};
-ghost use Rattle.seed_text.specs.SetTexts.{set_bytes, set_text, byte_count, has_file};
+ghost use Rattle.seed_text.specs.SetDigits.{digit_of, hex_digit};
+ghost use Rattle.seed_text.specs.SetTexts.{set_text};
 
-use crate::write::write_set;
-use hex::FromHexError;
 use seed_model::{NoMemory, PlanSet};
 use std::alloc::Global;
 
@@ -19,77 +17,80 @@ pub fn read_set(alloc: Global, text: &[u8], files: u32) -> Result<Option<PlanSet
     ensures found { IfOk result (λ o. IfSome o (λ set. (length set ≡ files) × (text.now ≡ set_text set))) }
     ensures none { IfOk result (λ o. IfNone o ((set : List Bool) → length set ≡ files → text.now ≢ set_text set)) }
 {
-    let read = read_bytes(alloc, text, files)?;
-    let Some(bytes) = read else {
-        return Ok(None);
-    };
-    let set = set_of(alloc, bytes.as_slice(), files)?;
-    let spelled = write_set(alloc, &set)?;
-    if spelled.as_slice() != text {
+    let mut set = PlanSet::empty(alloc, files)?;
+    if !fill_set(text, &mut set) {
         return Ok(None);
     }
     Ok(Some(set))
 }
 
-// The bytes of which the text can be that of a set of so many files; `None` where there are none.
-fn read_bytes(alloc: Global, text: &[u8], files: u32) -> Result<Option<Vec<u8>>, NoMemory>
-    ensures room { IfOk result (λ o. IfSome o (λ v. byte_count files ≤ length v.items)) }
-    ensures bytes { IfOk result (λ o. IfSome o (λ v. (set : List Bool) → length set ≡ files → text.now ≡ set_text set → v.items ≡ set_bytes set)) }
-    ensures none { IfOk result (λ o. IfNone o ((set : List Bool) → length set ≡ files → text.now ≢ set_text set)) }
+/// Reads a set from its text into a set of as many files, whatever that one has. True exactly where the text is that of
+/// such a set, which is there then; else nothing is known of the files that are in the set.
+pub fn fill_set(text: &[u8], set: &mut PlanSet) -> bool
+    ensures text { IsTrue result ↔ ((one : List Bool) × (length one ≡ length set.old) × (text.now ≡ set_text one)) }
+    ensures set { result ≡ true → text.now ≡ set_text set.new }
+    ensures stays { length set.new ≡ length set.old }
 {
-    if files == 0 {
-        return Ok(Some(Vec::new(alloc)));
+    if set.files() == 0 {
+        return text == b"-".as_slice();
     }
-    let read = decode(alloc, text)?;
-    let Some(bytes) = read else {
-        return Ok(None);
-    };
-    if bytes.len() != files.div_ceil(8) as usize {
-        return Ok(None);
+    let digits = 2 * set.files().div_ceil(8);
+    if text.len() != digits as usize {
+        return false;
     }
-    Ok(Some(bytes))
+    for place in 0..digits {
+        let Some(value) = digit_value(text[place as usize]) else {
+            return false;
+        };
+        if !put_digit(set, place, value) {
+            return false;
+        }
+    }
+    true
 }
 
-// The bytes of a text of pairs of hex digits in either case; `None` where it is no such text.
-fn decode(alloc: Global, text: &[u8]) -> Result<Option<Vec<u8>>, NoMemory>
-    ensures found { IfOk result (λ o. IfSome o (λ v. decode_of text.now ≡ Ok v.items)) }
-    ensures none { IfOk result (λ o. IfNone o ((bytes : List ℕ) → decode_of text.now ≢ Ok bytes)) }
+// The value of a digit of lower-case hex.
+fn digit_value(byte: u8) -> Option<u8>
+    ensures found { IfSome result (λ value. (value < 16) × (byte ≡ hex_digit value)) }
+    ensures none { IfNone result ((value : ℕ) → value < 16 → byte ≢ hex_digit value) }
 {
-    match hex::decode(alloc, text) {
-        Ok(bytes) => Ok(Some(bytes)),
-        Err(FromHexError::OutOfMemory) => Err(NoMemory),
-        Err(_) => Ok(None),
+    match byte {
+        b'0'..=b'9' => Some(byte - b'0'),
+        b'a'..=b'f' => Some(byte - b'a' + 10),
+        _ => None,
     }
 }
 
-// The set of the files whose bits are 1.
-fn set_of(alloc: Global, bytes: &[u8], files: u32) -> Result<PlanSet, NoMemory>
-    requires { byte_count files ≤ length bytes.now }
-    ensures long { IfOk result (λ s. length s ≡ files) }
-    ensures files { IfOk result (λ s. (file : ℕ) → file < files → holds s file ≡ has_file bytes.now file) }
+// Puts the four files of a digit in or out of the set. False where the digit has a bit for no file.
+fn put_digit(set: &mut PlanSet, place: u32, value: u8) -> bool
+    requires place { place < 2 ^ 30 }
+    requires value { value < 16 }
+    ensures told { result ≡ true → digit_of set.new place ≡ value }
+    ensures other { result ≡ false → (one : List Bool) → length one ≡ length set.old → digit_of one place ≢ value }
+    ensures before { (file : ℕ) → file < 4 * place → holds set.new file ≡ holds set.old file }
+    ensures stays { length set.new ≡ length set.old }
 {
-    let mut set = PlanSet::empty(alloc, files)?;
-    for file in 0..files {
-        take_file(&mut set, bytes, file);
-    }
-    Ok(set)
+    let first = 4 * place;
+    put_bit(set, first, value / 8 == 1)
+        && put_bit(set, first + 1, value / 4 % 2 == 1)
+        && put_bit(set, first + 2, value / 2 % 2 == 1)
+        && put_bit(set, first + 3, value % 2 == 1)
 }
 
-// Adds the file where its bit is 1.
-fn take_file(set: &mut PlanSet, bytes: &[u8], file: u32)
-    requires known { file < length set.old }
-    requires within { file / 8 < length bytes.now }
-    ensures { set.new ≡ (if has_file bytes.now file then slice_set set.old file true else set.old) }
+// Puts a file in or out of the set. False where it is to be in and there is no such file.
+fn put_bit(set: &mut PlanSet, file: u32, inside: bool) -> bool
+    ensures told { result ≡ true → holds set.new file ≡ inside }
+    ensures other { result ≡ false → (length set.old ≤ file) × (inside ≡ true) }
+    ensures others { (other : ℕ) → other ≢ file → holds set.new other ≡ holds set.old other }
+    ensures stays { length set.new ≡ length set.old }
 {
-    if has_bit(bytes, file) {
+    if file >= set.files() {
+        return !inside;
+    }
+    if inside {
         set.insert(file);
+    } else {
+        set.remove(file);
     }
-}
-
-// Whether the file's bit is 1.
-fn has_bit(bytes: &[u8], file: u32) -> bool
-    requires { file / 8 < length bytes.now }
-    ensures { result ≡ has_file bytes.now file }
-{
-    (bytes[(file / 8) as usize] >> (7 - file % 8)) % 2 == 1
+    true
 }
