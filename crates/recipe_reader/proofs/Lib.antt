@@ -4,6 +4,7 @@ pub mod Fields
 pub mod Gathering
 pub mod Grouping
 pub mod Keeping
+pub mod LeadLawful
 pub mod OneFault
 pub mod OneMeaning
 pub mod OnePairMore

@@ -1,5 +1,5 @@
 -- What a row does to a recipe, and why it is refused.
-use Rattle.std.specs.Prelude.{Result, Ok, Err, OnOk, codes}
+use Rattle.std.specs.Prelude.{codes}
 use Rattle.std.proofs.Common.{◌≡◌, ◌≢◌, ◌∷◌, ◌++◌, ◌+◌, ◌<◌, [], ℕ, List, Some, refl, length, get_or, arith, inl, inr}
 use Rattle.std.specs.List.{list_any}
 use Rattle.std.proofs.lemmas.Bool.{cases_Bool}
@@ -100,13 +100,7 @@ pub leads_push : (start before after : RecipeValue) (rows : List (List (List ℕ
 leads_push start before after [] fields led taken = (after, rw led taken, refl)
 leads_push start before after (row ∷ rows) fields led taken = (led.0, led.1, leads_push led.0 before after rows fields led.2 taken)
 
--- a call that takes a row
-pub takes_row : {T E : Type 0} (result : Result T E) (before after : RecipeValue) (fields : List (List ℕ)) (row : Row) → SpellsRow fields row
-    → OnOk result (after ≡ with_row before row) → OnOk result (MayFollow before row) → OnOk result (TakesRow before fields after)
-takes_row (Ok x) before after fields row spelled taken follows = record { row = row; spelled = spelled; follows = follows; taken = taken }
-takes_row (Err e) before after fields row spelled taken follows = tt
-
--- the same of the fields one by one
+-- the fields of a row, one by one
 pub spells_fields : (fields : List (List ℕ)) (first second third file name shown : List ℕ) (size : ℕ) → length fields ≡ 3
     → first ≡ get_or fields 0 [] → second ≡ get_or fields 1 [] → third ≡ get_or fields 2 [] → file ≡ first → IsFileName first → shown ≡ name → NamesChunk second name
     → SpellsSize third size → (second ≡ [] → third ≡ codes "0") → SpellsRow fields (row_of file shown size)

@@ -1,5 +1,6 @@
 pub mod AddFaults
 pub mod Appearance
+pub mod Eights
 pub mod Grouped
 pub mod GroupedInside
 pub mod Lawful

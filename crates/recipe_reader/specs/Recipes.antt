@@ -1,5 +1,5 @@
 -- Recipes: files and chunks by number, and who uses what.
-use Rattle.std.specs.Prelude.{ℕ, ◌==◌, ◌&&◌, List, [], Bool, length, sum_by, nat_eq, map, filter, slice_index_or, refl}
+use Rattle.std.specs.Prelude.{◌≡◌, ℕ, ◌==◌, ◌&&◌, List, [], Bool, length, sum_by, nat_eq, map, filter, slice_index_or, refl}
 use Rattle.std.specs.List.{list_any, position_or_len, range_with_len}
 use Rattle.std.specs.Cmp.Lexicographic.{pointwise}
 use Rattle.std.specs.Coded.{Coded, code_by, coded×, coded_ℕ, coded_list}
@@ -51,6 +51,11 @@ chunk_number chunks name = position_or_len (is_chunk name) chunks
 -- the recipe once this file is in it
 abbrev pub with_file : RecipeValue → List ℕ → RecipeValue
 with_file recipe name = record recipe { files = with_new (is_named name) recipe.files name }
+
+-- the recipe has the file with this name, which has this number
+pub record IsFileOf (recipe : RecipeValue) (name : List ℕ) (number : ℕ) : Type 0 where
+  pub there : with_file recipe name ≡ recipe
+  pub is : number ≡ file_number recipe.files name
 
 -- the recipe once this file uses the chunk with this number
 abbrev pub with_use : RecipeValue → ℕ → ℕ → RecipeValue

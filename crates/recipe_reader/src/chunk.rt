@@ -1,5 +1,7 @@
 // A chunk as a list keeps it.
 ghost use Rattle.std.specs.Prelude.{◌≡◌, ◌≤◌, length};
+ghost use Rattle.std.specs.List.{fold};
+ghost use Rattle.recipe_reader.specs.Eights.{eights};
 ghost use Rattle.recipe_reader.specs.Recipes.{NamedChunk};
 
 use crate::error::{GREATEST_SIZE, LONGEST_CHUNK_NAME};
@@ -46,7 +48,8 @@ impl Chunk {
 
     /// The bytes of the name.
     pub(crate) fn name(&self) -> &[u8]
-        ensures { result.now ≡ self.now.name }
+        ensures name { result.now ≡ self.now.name }
+        ensures short { length result.now ≤ LONGEST_CHUNK_NAME }
     {
         &self.bytes[..self.len as usize]
     }
@@ -83,16 +86,29 @@ impl Eq for Chunk {
     ghost laws = { Prim.search (comparing, rules) };
 }
 
+// Eight bytes at a time, so that a hasher that is quick for few bytes mixes each of them with its key.
 impl Hash for Chunk {
-    ghost use Rattle.std.specs.Prelude.{[], ◌∷◌};
     ghost use Rattle.std.proofs.Common.{ap, sym};
     ghost use Rattle.std.specs.Cmp.Lexicographic.{same_text};
+    ghost use Rattle.recipe_reader.specs.Eights.{eights};
 
-    ghost hash_input = { λ c. c.name ∷ [] };
+    ghost hash_input = { λ c. eights c.name };
 
-    ghost respects_eq = { λ x y same. ap (λ name. name ∷ []) (same_text x.name y.name (sym same)) };
+    ghost respects_eq = { λ x y same. ap eights (same_text x.name y.name (sym same)) };
 
     fn hash<H: Hasher>(&self, state: &mut H) {
-        state.write(self.name());
+        write_eights(self.name(), state);
+    }
+}
+
+/// Writes bytes into a hasher, eight at a time.
+fn write_eights<H: Hasher>(bytes: &[u8], state: &mut H)
+    requires { length bytes.now ≤ LONGEST_CHUNK_NAME }
+    ensures { state.new ≡ fold H.write state.old (eights bytes.now) }
+{
+    for place in 0..bytes.len().div_ceil(8) {
+        let start = 8 * place;
+        let end = bytes.len().min(start + 8);
+        state.write(&bytes[start..end]);
     }
 }

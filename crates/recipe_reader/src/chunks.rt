@@ -6,7 +6,7 @@ ghost use Rattle.list_facts.specs.Firsts.{IsNumberOf};
 
 use crate::chunk::Chunk;
 use crate::error::{GREATEST_SIZE, LONGEST_CHUNK_NAME};
-use crate::text_key::StrongKey;
+use crate::text_key::FastKey;
 use arrayvec::ArrayVec;
 use indexmap::IndexSet;
 use seed_model::NoMemory;
@@ -19,7 +19,7 @@ pub(crate) type ChunkName = ArrayVec<u8, LONGEST_CHUNK_NAME>;
 /// Chunks, numbered from 0 by first appearance.
 #[derive(Drop)]
 pub(crate) struct ChunkList {
-    chunks: IndexSet<Chunk, StrongKey>,
+    chunks: IndexSet<Chunk, FastKey>,
 }
 
 impl Model for ChunkList {
@@ -36,7 +36,7 @@ impl Model for ChunkList {
 
 impl ChunkList {
     /// No chunks, with room ahead for so many where there is memory for that.
-    pub(crate) fn with_room(alloc: Global, key: StrongKey, count: usize) -> Self
+    pub(crate) fn with_room(alloc: Global, key: FastKey, count: usize) -> Self
         ensures { result ≡ [] }
     {
         match IndexSet::with_capacity_and_hasher(alloc, count, key) {

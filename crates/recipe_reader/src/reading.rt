@@ -1,13 +1,13 @@
 // Recipes from rows of text.
-ghost use Rattle.std.specs.Prelude.{◌≡◌, ◌≢◌, ◌<◌, ◌≤◌, [], List, ℕ, length, slice_index_or, IfOk, IfErr, OnOk};
+ghost use Rattle.std.specs.Prelude.{◌≡◌, ◌≢◌, ◌<◌, ◌≤◌, [], List, ℕ, length, slice_index_or, IfOk, IfErr, IfSome, IfNone, OnOk};
 ghost use Rattle.csv.specs.Records.{fields_of};
 ghost use Rattle.csv_rows.specs.Rows.{rows_of};
 ghost use Rattle.file_names.specs.FileNames.{IsFileName};
 ghost use Rattle.recipe_reader.specs.Appearance.{IsGathered};
-ghost use Rattle.recipe_reader.specs.Lawful.{IsChunkName};
+ghost use Rattle.recipe_reader.specs.Lawful.{IsChunkName, IsRecipe};
 ghost use Rattle.recipe_reader.specs.Parts.{IsRowFault, fault_at, row_of};
 ghost use Rattle.recipe_reader.specs.Reading.{IsFault, IsFirstFault, Leads, MayFollow, TakesRow};
-ghost use Rattle.recipe_reader.specs.Recipes.{RecipeValue, empty_recipe};
+ghost use Rattle.recipe_reader.specs.Recipes.{RecipeValue, IsFileOf, empty_recipe};
 ghost use Rattle.recipe_reader.specs.RecipeRows.{with_row};
 
 use crate::chunks::ChunkName;
@@ -16,7 +16,7 @@ use crate::recipe::Recipe;
 use crate::row::{field, read_chunk_name, read_size};
 use csv::ByteRecord;
 use csv_rows::RowReader;
-use file_names::file_name_of;
+use file_names::is_file_name;
 use std::alloc::Global;
 
 /// The recipe that the rows of a text lead to; or the first fault of the first row at fault. Each row is a file name, a
@@ -50,35 +50,62 @@ fn take_row(recipe: &mut Recipe, number: u64, row: &ByteRecord) -> Result<(), Re
     if row.len() != 3 {
         return Err(RecipeError::BadRow { row: number });
     }
-    let Some(file) = file_name_of(field(row, 0)) else {
+    let text = field(row, 1);
+    let name = read_chunk_name(text);
+    let size = read_size(text, field(row, 2));
+    // The file and the chunk are looked up one behind the other, so that the machine can wait for both at once.
+    let Some(file) = file_in(recipe, field(row, 0)) else {
         return Err(RecipeError::BadName { row: number });
     };
-    let text = field(row, 1);
-    let Some(name) = read_chunk_name(text) else {
+    let Some(name) = name else {
         return Err(RecipeError::BadChunkName { row: number });
     };
-    let Some(size) = read_size(text, field(row, 2)) else {
+    let Some(size) = size else {
         return Err(RecipeError::BadSize { row: number });
     };
     add_row(recipe, number, file, name, size)
+}
+
+// A file as a row names it: the name, and the number where the recipe has the file.
+#[derive(Drop)]
+struct RowFile<'a> {
+    name: &'a str,
+    number: Option<u32>,
+}
+
+// The file that these bytes name, where they are a file name. The names that a recipe has are: only others are judged.
+fn file_in<'a>(recipe: &Recipe, bytes: &'a [u8]) -> Option<RowFile<'a>>
+    ensures same { IfSome result (λ file. (file.name.now ≡ bytes.now) × IsFileName bytes.now) }
+    ensures known { IfSome result (λ file. IfSome file.number (IsFileOf recipe.now file.name.now)) }
+    ensures none { IfNone result (¬ IsFileName bytes.now) }
+{
+    let Ok(name) = str::from_utf8(bytes) else {
+        return None;
+    };
+    let number = recipe.file_named(name);
+    if number.is_none() && !is_file_name(name) {
+        return None;
+    }
+    Some(RowFile { name, number })
 }
 
 // Adds what a row says: a file, and that it uses a chunk, if one is named.
 fn add_row(
     recipe: &mut Recipe,
     number: u64,
-    file: &str,
+    file: RowFile<'_>,
     name: ChunkName,
     size: u64,
 ) -> Result<(), RecipeError>
-    requires file { IsFileName file.now }
+    requires file { IsFileName file.name.now }
+    requires known { IfSome file.number (IsFileOf recipe.old file.name.now) }
     requires name { 0 < length name.items → IsChunkName name.items }
     requires size { size ≤ GREATEST_SIZE }
-    ensures ok { OnOk result (recipe.new ≡ with_row recipe.old (row_of file.now name.items size)) }
-    ensures follows { OnOk result (MayFollow recipe.old (row_of file.now name.items size)) }
-    ensures fault { IfErr result (λ e. e ≢ RecipeError.Memory → IsRowFault recipe.old number (row_of file.now name.items size) e) }
+    ensures ok { OnOk result (recipe.new ≡ with_row recipe.old (row_of file.entry.name.now name.items size)) }
+    ensures follows { OnOk result (MayFollow recipe.old (row_of file.entry.name.now name.items size)) }
+    ensures fault { IfErr result (λ e. e ≢ RecipeError.Memory → IsRowFault recipe.old number (row_of file.entry.name.now name.items size) e) }
 {
-    let file = match recipe.add_file(file) {
+    let file = match recipe.add_known(file.name, file.number) {
         Ok(file) => file,
         Err(fault) => {
             if let Some(first) = recipe.other_size(&name, size) {
@@ -101,9 +128,10 @@ fn add_row(
 }
 
 /// What rows that lead to a recipe make of it: its files, chunks and pairs are those that the rows name, by first
-/// appearance, and each row has its chunk's size. Rows lead to one recipe, or have one first fault, and never both.
+/// appearance, each row has its chunk's size, and the recipe is lawful. Rows lead to one recipe, or have one first fault, and never both.
 pub fn recipe_laws()
     ensures gathered { (rows : List (List (List ℕ))) (recipe : RecipeValue) → Leads empty_recipe rows recipe → IsGathered rows recipe }
+    ensures lawful { (rows : List (List (List ℕ))) (recipe : RecipeValue) → Leads empty_recipe rows recipe → IsRecipe recipe }
     ensures one { (rows : List (List (List ℕ))) (a b : RecipeValue) → Leads empty_recipe rows a → Leads empty_recipe rows b → a ≡ b }
     ensures one_fault { (rows : List (List (List ℕ))) (a b : RecipeError) → IsFirstFault empty_recipe rows a → IsFirstFault empty_recipe rows b → a ≡ b }
     ensures no_fault { (rows : List (List (List ℕ))) (recipe : RecipeValue) (fault : RecipeError) → Leads empty_recipe rows recipe → ¬ IsFirstFault empty_recipe rows fault }

@@ -5,13 +5,13 @@ ghost use Rattle.file_names.specs.FileNames.{IsFileName};
 ghost use Rattle.recipe_reader.specs.AddFaults.{IsLimitFault, IsPairFault};
 ghost use Rattle.recipe_reader.specs.Lawful.{IsChunkName, IsRecipe};
 ghost use Rattle.recipe_reader.specs.Limits.{KeepsSize};
-ghost use Rattle.recipe_reader.specs.Recipes.{empty_recipe, bytes_of, name_at, size_at, is_named, is_chunk, is_pair, file_number, chunk_number, with_file, with_use, with_pair};
+ghost use Rattle.recipe_reader.specs.Recipes.{IsFileOf, empty_recipe, bytes_of, name_at, size_at, is_named, is_chunk, is_pair, file_number, chunk_number, with_file, with_use, with_pair};
 
 use crate::chunks::{ChunkList, ChunkName, name_of};
 use crate::error::{AddError, GREATEST_SIZE, LONGEST_CHUNK_NAME, What};
 use crate::files::FileList;
 use crate::pairs::{PairError, PairList};
-use crate::text_key::{FastKey, StrongKey, digest_of};
+use crate::text_key::{FastKey, digest_of};
 use seed_model::limits::{MOST_BYTES, MOST_CHUNKS, MOST_FILES, MOST_PAIRS};
 use std::alloc::Global;
 use std::marker::Model;
@@ -58,13 +58,12 @@ impl Recipe {
     pub(crate) fn for_text(alloc: Global, text: &[u8]) -> Self
         ensures { result ≡ empty_recipe }
     {
-        let digest = digest_of(text);
-        let key = FastKey::new(digest);
+        let key = FastKey::new(digest_of(text));
         let chunks = (text.len() / BYTES_A_CHUNK).min(MOST_CHUNKS as usize);
         let pairs = (text.len() / BYTES_A_PAIR).min(MOST_PAIRS as usize);
         Recipe {
             files: FileList::new(alloc, key),
-            chunks: ChunkList::with_room(alloc, StrongKey::new(digest), chunks),
+            chunks: ChunkList::with_room(alloc, key, chunks),
             pairs: PairList::with_room(alloc, key, pairs),
             total: 0,
         }
@@ -127,6 +126,34 @@ impl Recipe {
         ensures recipe { IsRecipe self.now }
     {
         self.pairs.as_slice()
+    }
+
+    /// The number of the file with this name, where it is there. Its name is a lawful one.
+    pub(crate) fn file_named(&self, name: &str) -> Option<u32>
+        ensures number { IfSome result (IsFileOf self.now name.now) }
+        ensures lawful { IfSome result (λ _. IsFileName name.now) }
+    {
+        match self.files.find(name) {
+            Some(number) => Some(number as u32),
+            None => None,
+        }
+    }
+
+    /// The same as `add_file`, of a name whose number may be known.
+    pub(crate) fn add_known(&mut self, name: &str, known: Option<u32>) -> Result<u32, AddError>
+        requires name { IsFileName name.now }
+        requires known { IfSome known (IsFileOf self.old name.now) }
+        ensures ok { OnOk result (self.new ≡ with_file self.old name.now) }
+        ensures number { IfOk result (λ number. number ≡ file_number self.new.files name.now) }
+        ensures fault { IfErr result (IsLimitFault (with_file self.old name.now)) }
+        ensures err { OnErr result (self.new ≡ self.old) }
+        ensures recipe { IsRecipe self.new }
+    {
+        let _ = &self.files;
+        match known {
+            Some(number) => Ok(number),
+            None => self.add_file(name),
+        }
     }
 
     /// The number of the file with this name, which is put last where it is new.

@@ -10,10 +10,8 @@ pub(crate) struct TextKey<H> {
     start: H,
 }
 
-/// For names of any bytes: a hasher for which no names are known that collide under every key.
-pub(crate) type StrongKey = TextKey<DefaultHasher>;
-
-/// For file names, whose bytes are text, and for pairs of numbers.
+/// The key of all tables. Its hasher mixes up to eight bytes at a time with what it holds, so chunk names, whose bytes may
+/// be any, are written to it by eights; file names are UTF-8, in which its constant does not occur.
 pub(crate) type FastKey = TextKey<FoldHasher>;
 
 impl<H: Hasher + Default> TextKey<H> {
