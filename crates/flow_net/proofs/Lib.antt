@@ -1,9 +1,7 @@
 pub mod Balance
 pub mod Carrying
-pub mod Counts
 pub mod Cutting
 pub mod Linking
-pub mod Placing
 pub mod Powering
 pub mod Pushing
 pub mod Queue

@@ -1,7 +1,7 @@
 use Rattle.std.proofs.Common.{inl, inr, ◌⊎◌, ◌≡◌, ◌≢◌, refl, ℕ, ◌+◌, ◌≤◌, ◌<◌, Bool, true, false, cond, not, List, length, get_or, set, sym, ◌∙◌, ap, subst, arith}
 use mathlib.Core.Bool.{beq}
 use Rattle.std.specs.Prelude.{count_by}
-use Rattle.std.proofs.lemmas.List.{get_or-set_other, get_or-set_same}
+use Rattle.std.proofs.lemmas.List.{get_or_default, get_or-set_other, get_or-set_same}
 use Rattle.std.proofs.lemmas.List.Sums.{sum_by-set, get_or-le-sum_by}
 use Rattle.std.proofs.lemmas.Bool.{cases_eq, cases_lt, lt-ltb, le-ltb}
 use Rattle.flow_net.specs.declared.pipes.Pipe.{Pipe}
@@ -124,14 +124,23 @@ turned_is true false = refl
 turned_is false true = refl
 turned_is false false = refl
 
+-- what is left on the use across a link
+left_across :
+    (ps : List Pipe) (xs : List ℕ) (backward : Bool) (link : Link) (left : ℕ) →
+    left ≡ left_on ps xs (use_of link.pipe (not (beq link.back backward))) → left ≡ left_on ps xs (use_of link.pipe (turned backward link.back))
+left_across ps xs backward link left is = is ∙ ap (λ b. left_on ps xs (use_of link.pipe b)) (turned_is link.back backward)
+
 -- a use across the link that has so much left leads on
 pub leads_on :
     (ps : List Pipe) (xs : List ℕ) (power : ℕ) (backward : Bool) (link : Link) (left : ℕ) →
     left ≡ left_on ps xs (use_of link.pipe (not (beq link.back backward))) → power ≤ left → LeadsFar ps xs power backward link
-leads_on ps xs power backward link left is enough =
-    let same : left ≡ left_on ps xs (use_of link.pipe (turned backward link.back)) =
-    is ∙ ap (λ b. left_on ps xs (use_of link.pipe b)) (turned_is link.back backward) in
-    omega (arith, same, enough)
+leads_on ps xs power backward link left is enough = omega (arith, left_across ps xs backward link left is, enough)
+
+-- a link that leads on has so much left
+pub leads_within :
+    (ps : List Pipe) (xs : List ℕ) (power : ℕ) (backward : Bool) (link : Link) (left : ℕ) →
+    left ≡ left_on ps xs (use_of link.pipe (not (beq link.back backward))) → LeadsFar ps xs power backward link → power ≤ left
+leads_within ps xs power backward link left is leads = omega (arith, left_across ps xs backward link left is, leads)
 
 -- what was reached stays reached
 pub reached_kept :
@@ -160,3 +169,31 @@ spreads_more ps xs power backward row i level l0 l1 l2 q0 q1 q2 c0 c1 c2 one two
       grows = omega (arith, one.grows, two.grows);
       queue = λ j h. two.queue j (let g = one.grows in omega (arith, g, h)) ∙ one.queue j h;
     }
+
+-- a link was crossed: its far node was reached newly, at one level above, where it is new and the link leads on, and
+-- nothing else changed
+pub record IsCrossed (n : ℕ) (ps : List Pipe) (xs : List ℕ) (power : ℕ) (backward : Bool) (link : Link) (level : ℕ) (l0 l1 q0 q1 : List ℕ) (c0 c1 : ℕ) : Type 0 where
+  pub queue : IsQueue n l1 q1 c1
+  pub spreads : Spreads (λ v. (link.far ≡ v) × LeadsFar ps xs power backward link) level l0 l1 q0 q1 c0 c1
+  pub crossed : LeadsFar ps xs power backward link → IsReached l1 link.far
+
+pub crossed_new :
+    (n : ℕ) (ps : List Pipe) (xs : List ℕ) (power : ℕ) (backward : Bool) (link : Link) (level : ℕ) (levels queue : List ℕ) (count : ℕ) →
+    length levels ≡ n → length queue ≡ n → n < unreached → link.far < n → level + 1 ≤ count → IsQueue n levels queue count →
+    get_or levels link.far 0 ≡ unreached → LeadsFar ps xs power backward link →
+    IsCrossed n ps xs power backward link level levels (set levels link.far (level + 1)) queue (set queue count link.far) count (count + 1)
+crossed_new n ps xs power backward link level levels queue count sized each few known low is read leads =
+    let within : link.far < length levels = omega (arith, sized, known) in
+    let new : level_of levels link.far ≡ unreached = get_or_default levels link.far unreached 0 within ∙ read in
+    record {
+      queue = queue_marked n levels queue count link.far (level + 1) sized each few known new low is;
+      spreads = spreads_marked ps xs power backward link level levels queue count within new leads;
+      crossed = λ _. marked_reached n levels queue count link.far (level + 1) sized few known low is;
+    }
+
+pub crossed_not :
+    (n : ℕ) (ps : List Pipe) (xs : List ℕ) (power : ℕ) (backward : Bool) (link : Link) (level : ℕ) (levels queue : List ℕ) (count : ℕ) →
+    IsQueue n levels queue count → (LeadsFar ps xs power backward link → IsReached levels link.far) →
+    IsCrossed n ps xs power backward link level levels levels queue queue count count
+crossed_not n ps xs power backward link level levels queue count is reached =
+    record { queue = is; spreads = spreads_none (λ v. (link.far ≡ v) × LeadsFar ps xs power backward link) level levels queue count; crossed = reached }

@@ -4,10 +4,9 @@ use Rattle.std.specs.Prelude.{count_by}
 use Rattle.std.proofs.lemmas.List.Sums.{sum_by-cons}
 use Rattle.std.proofs.lemmas.List.{get_or-set_other, get_or-set_same}
 use Rattle.flow_net.specs.declared.pipes.Pipe.{Pipe}
-use Rattle.flow_net.specs.declared.links.Adjacency.{Adjacency}
 use Rattle.flow_net.specs.Nets.{NetValue}
 use Rattle.flow_net.specs.Paths.{use_of, start_of, end_of, left_on}
-use Rattle.flow_net.specs.Links.{link_at, row_of, IsAdjacency, IsLinked}
+use Rattle.flow_net.specs.Links.{Adjacency, link_at, row_of, IsAdjacency, IsLinked}
 use Rattle.flow_net.specs.Levels.{unreached, level_of, IsReached, reached, turned, is_unreached, IsQueue, IsClosed, HasParent, LeadsFar, IsNext, Spreads, IsSearched}
 use Rattle.flow_net.proofs.Queue.{reached_kept, queue_marked}
 

@@ -1,18 +1,26 @@
 use Rattle.std.proofs.Common.{inl, inr, ◌≡◌, ◌≢◌, ℕ, ◌+◌, ◌-◌, ◌*◌, ◌≤◌, ◌<◌, Bool, true, false, not, List, [], ◌∷◌, length, get_or, set, drop, sum, refl, sym, ◌∙◌, ap, subst, arith}
 use Rattle.std.proofs.lemmas.Bool.{cases_eq, cases_lt}
-use Rattle.std.proofs.lemmas.List.{get_or-set_other, get_or-set_same, length-set, drop-set, drop_more, drop_all, get_or_default, length-take, length-drop}
+use Rattle.std.proofs.lemmas.List.{get_or-set_other, get_or-set_same, length-set, drop-set, drop_more, drop_all, get_or_default}
 use Rattle.std.proofs.Math.Nat.{mul-le-mul_right}
 use Rattle.std.proofs.lemmas.List.Sums.{sum_by-set, sum_by-le}
 use Rattle.flow_net.specs.declared.pipes.Pipe.{Pipe}
 use Rattle.flow_net.specs.declared.pipes.Use.{Use}
 use Rattle.flow_net.specs.declared.links.Link.{Link}
-use Rattle.flow_net.specs.declared.links.Adjacency.{Adjacency}
 use Rattle.flow_net.specs.Nets.{NetValue, IsNet}
 use Rattle.flow_net.specs.Paths.{use_of, start_of, end_of, left_on, IsPath}
-use Rattle.flow_net.specs.Links.{link_at, row_of, IsAdjacency, IsLinked}
+use Rattle.flow_net.specs.Links.{Adjacency, link_at, row_of, IsAdjacency, IsLinked}
 use Rattle.flow_net.specs.Levels.{level_of, IsReached, IsSearched}
 use Rattle.flow_net.specs.Trails.{IsGood, Rises, IsTrail, AreBounded, HaveWays}
 use Rattle.flow_net.proofs.Ready.{no_use}
+
+-- a use turned round begins where the other way ends
+turns_start : (ps : List Pipe) (i : ℕ) (b : Bool) → start_of ps (use_of i (not b)) ≡ end_of ps (use_of i b)
+turns_start ps i true = refl
+turns_start ps i false = refl
+
+turns_end : (ps : List Pipe) (i : ℕ) (b : Bool) → end_of ps (use_of i (not b)) ≡ start_of ps (use_of i b)
+turns_end ps i true = refl
+turns_end ps i false = refl
 
 -- the pointers of the nodes at which uses end are not past the end of their adjacency
 abbrev pub Pointed : List Pipe → Adjacency → List ℕ → List Use → Type 0
@@ -94,14 +102,6 @@ trailing_down net adjacency xs power levels sink next path node place lawful are
       pointed = subst (λ us. Pointed net.pipes adjacency (set next node place) us) (sym cut) pointed;
     }
   where
-    turns_start : (ps : List Pipe) (i : ℕ) (b : Bool) → start_of ps (use_of i (not b)) ≡ end_of ps (use_of i b)
-    turns_start ps i true = refl
-    turns_start ps i false = refl
-
-    turns_end : (ps : List Pipe) (i : ℕ) (b : Bool) → end_of ps (use_of i (not b)) ≡ start_of ps (use_of i b)
-    turns_end ps i true = refl
-    turns_end ps i false = refl
-
     far_known : (b : Bool) (i : ℕ) → i < length net.pipes → end_of net.pipes (use_of i b) < net.nodes
     far_known true i l = (lawful.pipes i l).from_is_node
     far_known false i l = (lawful.pipes i l).to_is_node
@@ -262,15 +262,6 @@ found_at ps ps2 xs power levels level level2 row row2 from place ep el er found 
     (subst (λ (n : ℕ). FoundPlace ps xs power levels n row2 from place) el
     (subst (λ (r : List Link). FoundPlace ps xs power levels level r from place) er found))
 
-pub row_short : (adjacency : Adjacency) (v : ℕ) → length (row_of adjacency v) ≤ length adjacency.links.items
-unfolding row_of
-row_short adjacency v =
-    omega (
-      arith,
-      length-take (get_or adjacency.starts.items (v + 1) 0 - get_or adjacency.starts.items v 0) (drop (get_or adjacency.starts.items v 0) adjacency.links.items),
-      length-drop (get_or adjacency.starts.items v 0) adjacency.links.items,
-    )
-
 pub try_set :
     (limit : ℕ) (next : List ℕ) (v y : ℕ) (path path2 : List Use) (l l2 : ℕ) → v < length next → get_or next v 0 ≤ y →
     length path2 ≡ length path → l2 < l → to_try limit (set next v y) (length path2) l2 < to_try limit next (length path) l
@@ -319,14 +310,6 @@ ways_begin net adjacency xs power levels source sink next found are searched cle
     twice : (b : Bool) → not (not b) ≡ b
     twice true = refl
     twice false = refl
-
-    turns_start : (ps : List Pipe) (i : ℕ) (b : Bool) → start_of ps (use_of i (not b)) ≡ end_of ps (use_of i b)
-    turns_start ps i true = refl
-    turns_start ps i false = refl
-
-    turns_end : (ps : List Pipe) (i : ℕ) (b : Bool) → end_of ps (use_of i (not b)) ≡ start_of ps (use_of i b)
-    turns_end ps i true = refl
-    turns_end ps i false = refl
 
 -- only the start has level 0
 pub only_start :

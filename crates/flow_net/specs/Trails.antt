@@ -2,9 +2,8 @@ use Rattle.std.specs.Prelude.{◌≡◌, ◌≢◌, ℕ, ◌+◌, ◌<◌, ◌�
 use Rattle.flow_net.specs.declared.pipes.Pipe.{Pipe}
 use Rattle.flow_net.specs.declared.pipes.Use.{Use}
 use Rattle.flow_net.specs.declared.links.Link.{Link}
-use Rattle.flow_net.specs.declared.links.Adjacency.{Adjacency}
 use Rattle.flow_net.specs.Paths.{use_of, left_on, end_of, IsPath, HaveLeft}
-use Rattle.flow_net.specs.Links.{link_at, row_of}
+use Rattle.flow_net.specs.Links.{Adjacency, link_at, row_of}
 use Rattle.flow_net.specs.Levels.{level_of, IsReached}
 
 -- the use against a link leads from one level below with enough left

@@ -10,7 +10,7 @@ ghost use Rattle.flow_net.specs.Cuts.{AreSides, IsPrepared, chosen};
 use crate::amounts::Filling;
 use crate::counter::Steps;
 use crate::levels::{Sought, UNREACHED, search};
-use crate::links::Adjacency;
+use crate::links::{Adjacency, adjacency_of};
 use crate::network::Net;
 use crate::phases::begin;
 use crate::powers::powers;
@@ -43,8 +43,8 @@ fn prepare(alloc: Global, net: &Net) -> Result<Prepared, NoMemory>
     ensures { IfOk result (λ prepared. IsPrepared net.now prepared) }
 {
     let nodes = net.nodes() as usize;
-    let mut scratch = Scratch::of(alloc, nodes)?;
-    let adjacency = Adjacency::of(alloc, net, &mut scratch.next)?;
+    let adjacency = adjacency_of(alloc, net)?;
+    let scratch = Scratch::of(alloc, nodes)?;
     let filling = Filling::empty(alloc, net)?;
     Ok(Prepared {
         adjacency,

@@ -31,45 +31,8 @@ fn clear(levels: &mut [u32])
     }
 }
 
-/// Reaches the far node of a link at a level, if it is new and the link leads there with enough left. It answers how
-/// many nodes are in the queue.
-fn cross(
-    pipes: &[Pipe],
-    sought: &Sought,
-    link: Link,
-    level: u32,
-    levels: &mut [u32],
-    queue: &mut [u32],
-    count: usize,
-) -> usize
-    requires of_net { length sought.now.filling.now.amounts ≡ length pipes.now }
-    requires link { (link.pipe < length pipes.now) × (link.far < length levels.old) }
-    requires few { length levels.old < unreached }
-    requires each { length queue.old ≡ length levels.old }
-    requires level { level + 1 ≤ count }
-    requires queue { IsQueue (length levels.old) levels.old queue.old count }
-    ensures queue { IsQueue (length levels.old) levels.new queue.new result }
-    ensures spreads { Spreads (λ v. (link.far ≡ v)
-        × LeadsFar pipes.now sought.now.filling.now.amounts sought.now.power sought.now.backward link)
-        level levels.old levels.new queue.old queue.new count result }
-    ensures crossed { LeadsFar pipes.now sought.now.filling.now.amounts sought.now.power sought.now.backward link →
-        IsReached levels.new link.far }
-{
-    let across = Use {
-        pipe: link.pipe,
-        back: link.back != sought.backward,
-    };
-    if levels[link.far as usize] == UNREACHED
-        && sought.power <= left(pipes, sought.filling, across)
-    {
-        levels[link.far as usize] = level + 1;
-        queue[count] = link.far;
-        return count + 1;
-    }
-    count
-}
-
-/// Reaches the far nodes of a node's links that lead on, and answers how many nodes are in the queue.
+/// Reaches at one level above a node's own the far nodes of its links that lead on with enough left and that are new,
+/// and answers how many nodes are in the queue.
 fn spread(
     pipes: &[Pipe],
     sought: &Sought,
@@ -98,7 +61,17 @@ fn spread(
 {
     let mut filled = count;
     for link in row {
-        filled = cross(pipes, sought, *link, level, levels, queue, filled);
+        let across = Use {
+            pipe: link.pipe,
+            back: link.back != sought.backward,
+        };
+        if levels[link.far as usize] == UNREACHED
+            && sought.power <= left(pipes, sought.filling, across)
+        {
+            levels[link.far as usize] = level + 1;
+            queue[filled] = link.far;
+            filled += 1;
+        }
     }
     filled
 }
@@ -128,7 +101,7 @@ pub(crate) fn search(
     while head < count {
         let node = queue[head];
         let level = levels[node as usize];
-        let row = problem.adjacency.row(node);
+        let row = problem.adjacency.list(node);
         count = spread(pipes, sought, row, level, levels, queue, count);
         head += 1;
         if levels[problem.sink as usize] != UNREACHED {

@@ -1,5 +1,5 @@
 // Lists that a run writes.
-ghost use Rattle.std.specs.Prelude.{◌≡◌, ℕ, length, slice_index, IfOk};
+ghost use Rattle.std.specs.Prelude.{◌≡◌, length, IfOk};
 ghost use Rattle.flow_net.specs.Runs.{IsScratchFor};
 
 use crate::pipes::Use;
@@ -22,8 +22,7 @@ pub(crate) struct Scratch {
 impl Scratch {
     /// Lists for so many nodes, of zeros.
     pub fn of(alloc: Global, nodes: usize) -> Result<Scratch, NoMemory>
-        ensures places { IfOk result (λ made. IsScratchFor nodes made) }
-        ensures clear { IfOk result (λ made. (v : ℕ) → slice_index made.next.items v ≡ 0) }
+        ensures { IfOk result (λ made. IsScratchFor nodes made) }
     {
         let unused = Use {
             pipe: 0,

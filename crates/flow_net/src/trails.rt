@@ -94,7 +94,7 @@ pub(crate) fn find_path(
     let mut node = problem.sink;
     while node != problem.source {
         let level = levels[node as usize];
-        let row = problem.adjacency.row(node);
+        let row = problem.adjacency.list(node);
         let from = next[node as usize] as usize;
         let place = next_place(pipes, sought, levels, level, row, from);
         next[node as usize] = place as u32;

@@ -12,8 +12,8 @@ use Rattle.flow_net.proofs.levels.search.Goals.{After-spread-count}
 pub spread-count-requires-clause-links : goal.spread-count-requires-clause-links
 spread-count-requires-clause-links c =
     let node = get_or c.loop-head.queue c.loop-head.head 0 in
-    row_leads c.args.problem.now.net.now c.args.problem.now.adjacency.now node c.pipes-pipes.result.now c.row-row.result.now (length c.loop-head.levels)
-    c.pipes-pipes.ensures.lawful c.requires.lawful.links (c.loop-head.invariant.state.queue_is.queued c.loop-head.head c.loop-head-test.true).0 c.pipes-pipes.ensures.value c.row-row.ensures
+    row_leads c.args.problem.now.net.now c.args.problem.now.adjacency.now node c.pipes-pipes.result.now c.list-row.result.now (length c.loop-head.levels)
+    c.pipes-pipes.ensures.lawful c.requires.lawful.links (c.loop-head.invariant.state.queue_is.queued c.loop-head.head c.loop-head-test.true).0 c.pipes-pipes.ensures.value c.list-row.ensures
     c.loop-head.invariant.sized
 
 pub loop-head-init : goal.loop-head-init
@@ -44,11 +44,11 @@ step c =
     let known : node < length c.loop-head.levels =
     let q = (state.queue_is.queued c.loop-head.head c.loop-head-test.true).0 in omega (arith, q, c.loop-head.invariant.sized) in
     let level : get_or c.loop-head.levels node 0 ≡ level_of c.loop-head.levels node = get_or_default c.loop-head.levels node 0 unreached known in
-    let row : c.row-row.result.now ≡ row_of c.args.problem.now.adjacency.now node = c.row-row.ensures in
+    let row : c.list-row.result.now ≡ row_of c.args.problem.now.adjacency.now node = c.list-row.ensures in
     let spreads =
     subst (λ (ps : List Pipe). Spreads (IsNext ps xs c.args.sought.now.power c.args.sought.now.backward (row_of c.args.problem.now.adjacency.now node) (length (row_of c.args.problem.now.adjacency.now node))) (level_of c.loop-head.levels node) c.loop-head.levels c.spread-count.new.levels c.loop-head.queue c.spread-count.new.queue c.loop-head.count c.spread-count.result) c.pipes-pipes.ensures.value
     (subst (λ (r : List Link). Spreads (IsNext c.pipes-pipes.result.now xs c.args.sought.now.power c.args.sought.now.backward r (length r)) (level_of c.loop-head.levels node) c.loop-head.levels c.spread-count.new.levels c.loop-head.queue c.spread-count.new.queue c.loop-head.count c.spread-count.result) row
-    (subst (λ (n : ℕ). Spreads (IsNext c.pipes-pipes.result.now xs c.args.sought.now.power c.args.sought.now.backward c.row-row.result.now (length c.row-row.result.now)) n c.loop-head.levels c.spread-count.new.levels c.loop-head.queue c.spread-count.new.queue c.loop-head.count c.spread-count.result) level
+    (subst (λ (n : ℕ). Spreads (IsNext c.pipes-pipes.result.now xs c.args.sought.now.power c.args.sought.now.backward c.list-row.result.now (length c.list-row.result.now)) n c.loop-head.levels c.spread-count.new.levels c.loop-head.queue c.spread-count.new.queue c.loop-head.count c.spread-count.result) level
     c.spread-count.ensures.spreads)) in
     let crossed =
     subst (λ (ps : List Pipe). (k : ℕ) → k < length (row_of c.args.problem.now.adjacency.now node) → LeadsFar ps xs c.args.sought.now.power c.args.sought.now.backward (link_at (row_of c.args.problem.now.adjacency.now node) k) → IsReached c.spread-count.new.levels (link_at (row_of c.args.problem.now.adjacency.now node) k).far) c.pipes-pipes.ensures.value

@@ -8,7 +8,7 @@ use Rattle.flow_net.specs.Levels.{unreached, level_of, IsReached}
 use Rattle.flow_net.specs.Trails.{IsGood, HaveWays}
 use Rattle.flow_net.proofs.Linking.{row_leads}
 use Rattle.flow_net.proofs.Ready.{no_use}
-use Rattle.flow_net.proofs.Trailing.{Trailing, FoundPlace, found_at, row_short, trailing_down, trailing_up, trail_goes_on, at_first, ways_down, ways_go_on, try_set, try_raise, sum_bounded}
+use Rattle.flow_net.proofs.Trailing.{Trailing, FoundPlace, found_at, trailing_down, trailing_up, trail_goes_on, at_first, ways_down, ways_go_on, try_set, try_raise, sum_bounded}
 use Rattle.flow_net.proofs.trails.find_path.Goals as goal
 use Rattle.flow_net.proofs.trails.find_path.Goals.{After-next_place-place}
 
@@ -24,8 +24,8 @@ found :
     (row_of c.args.problem.now.adjacency.now c.loop-node.node) (get_or c.loop-node.next c.loop-node.node 0) c.next_place-place.result
 found c =
     found_at c.pipes-pipes.result.now c.args.problem.now.net.now.pipes c.args.sought.now.filling.now.amounts c.args.sought.now.power c.args.levels.now
-    (get_or c.args.levels.now c.loop-node.node 0) (level_of c.args.levels.now c.loop-node.node) c.row-row.result.now (row_of c.args.problem.now.adjacency.now c.loop-node.node)
-    (get_or c.loop-node.next c.loop-node.node 0) c.next_place-place.result c.pipes-pipes.ensures.value (level_is c) c.row-row.ensures
+    (get_or c.args.levels.now c.loop-node.node 0) (level_of c.args.levels.now c.loop-node.node) c.list-row.result.now (row_of c.args.problem.now.adjacency.now c.loop-node.node)
+    (get_or c.loop-node.next c.loop-node.node 0) c.next_place-place.result c.pipes-pipes.ensures.value (level_is c) c.list-row.ensures
     (record {
       behind = c.next_place-place.ensures.behind;
       within = c.next_place-place.ensures.within;
@@ -40,15 +40,15 @@ pub overflow_cast-next : goal.overflow_cast-next
 overflow_cast-next c =
     let a = (goal.at.overflow_cast-next c).After-next_place-place in
     let f = (found a).within in
-    let s = row_short c.args.problem.now.adjacency.now c.loop-node.node in
+    let s = c.requires.lawful.links.short c.loop-node.node c.loop-node.invariant.state.known in
     let few = c.pipes-pipes.ensures.lawful.few_pipes in
-    omega (arith, f, s, few, c.requires.lawful.links.size)
+    omega (arith, f, s, few)
 
-row_len : (c : After-next_place-place) → length c.row-row.result.now ≡ length (row_of c.args.problem.now.adjacency.now c.loop-node.node)
-row_len c = ap (λ (r : List Link). length r) c.row-row.ensures
+row_len : (c : After-next_place-place) → length c.list-row.result.now ≡ length (row_of c.args.problem.now.adjacency.now c.loop-node.node)
+row_len c = ap (λ (r : List Link). length r) c.list-row.ensures
 
 good :
-    (c : After-next_place-place) → c.next_place-place.result < length c.row-row.result.now →
+    (c : After-next_place-place) → c.next_place-place.result < length c.list-row.result.now →
     IsGood c.args.problem.now.net.now.pipes c.args.sought.now.filling.now.amounts c.args.sought.now.power c.args.levels.now (level_of c.args.levels.now c.loop-node.node)
     (link_at (row_of c.args.problem.now.adjacency.now c.loop-node.node) c.next_place-place.result)
 good c h = (found c).good (omega (arith, h, row_len c))
@@ -59,11 +59,11 @@ loop-node-smaller-then-place-row c =
     let g = good a c.if-place-row.true in
     let node : c.loop-node.node < length c.loop-node.next = let k = c.loop-node.invariant.state.known in omega (arith, k, next_len a) in
     let index = get_or c.args.levels.now c.loop-node.node 0 - 1 in
-    let link = link_at c.row-row.result.now c.next_place-place.result in
+    let link = link_at c.list-row.result.now c.next_place-place.result in
     let lower : level_of c.args.levels.now link.far < level_of c.args.levels.now c.loop-node.node =
-    subst (λ (r : List Link). level_of c.args.levels.now (link_at r c.next_place-place.result).far < level_of c.args.levels.now c.loop-node.node) (sym c.row-row.ensures)
+    subst (λ (r : List Link). level_of c.args.levels.now (link_at r c.next_place-place.result).far < level_of c.args.levels.now c.loop-node.node) (sym c.list-row.ensures)
     (omega (arith, g.lower)) in
-    try_set (length c.args.problem.now.adjacency.now.links.items) c.loop-node.next c.loop-node.node c.next_place-place.result c.loop-node.path
+    try_set (2 * length c.args.problem.now.net.now.pipes) c.loop-node.next c.loop-node.node c.next_place-place.result c.loop-node.path
     (set c.loop-node.path index (use_of link.pipe (not link.back))) (level_of c.args.levels.now c.loop-node.node) (level_of c.args.levels.now link.far)
     node (found a).behind (length-set c.loop-node.path index (use_of link.pipe (not link.back))) lower
 
@@ -88,7 +88,7 @@ loop-node-preserved-then-place-row c =
       state =
           subst (λ (r : List Link). Trailing net adjacency xs c.args.sought.now.power levels c.args.problem.now.sink (set c.loop-node.next node place)
           (set c.loop-node.path (get_or levels node 0 - 1) (use_of (link_at r place).pipe (not (link_at r place).back)))
-          (link_at r place).far) (sym c.row-row.ensures) down_level;
+          (link_at r place).far) (sym c.list-row.ensures) down_level;
       ways =
           λ before.
           ways_down net.pipes adjacency xs c.args.sought.now.power levels net.nodes c.args.problem.now.source c.loop-node.next node place (next_len a) c.loop-node.invariant.state.known
@@ -97,14 +97,14 @@ loop-node-preserved-then-place-row c =
 
 -- no link of the node's row leads on
 none_left :
-    (c : After-next_place-place) → length c.row-row.result.now ≤ c.next_place-place.result →
+    (c : After-next_place-place) → length c.list-row.result.now ≤ c.next_place-place.result →
     (k : ℕ) → get_or c.loop-node.next c.loop-node.node 0 ≤ k → k < length (row_of c.args.problem.now.adjacency.now c.loop-node.node) →
     ¬ IsGood c.args.problem.now.net.now.pipes c.args.sought.now.filling.now.amounts c.args.sought.now.power c.args.levels.now (level_of c.args.levels.now c.loop-node.node)
     (link_at (row_of c.args.problem.now.adjacency.now c.loop-node.node) k)
 none_left c h k from l = (found c).first k from (omega (arith, h, row_len c, l))
 
 no_ways :
-    (c : After-next_place-place) → c.loop-node.node ≢ c.args.problem.now.source → length c.row-row.result.now ≤ c.next_place-place.result →
+    (c : After-next_place-place) → c.loop-node.node ≢ c.args.problem.now.source → length c.list-row.result.now ≤ c.next_place-place.result →
     HaveWays c.args.problem.now.net.now.pipes c.args.sought.now.filling.now.amounts c.args.sought.now.power c.args.levels.now c.args.problem.now.adjacency.now c.args.problem.now.net.now.nodes c.args.problem.now.source c.args.next.now →
     ⊥
 no_ways c differ h before =
@@ -152,7 +152,7 @@ next_up c child =
 
 -- the state behind a node from which no link leads on
 up :
-    (c : After-next_place-place) (child : ℕ) → child ≡ child_of c → c.loop-node.node ≢ c.args.problem.now.sink → length c.row-row.result.now ≤ c.next_place-place.result →
+    (c : After-next_place-place) (child : ℕ) → child ≡ child_of c → c.loop-node.node ≢ c.args.problem.now.sink → length c.list-row.result.now ≤ c.next_place-place.result →
     Trailing c.args.problem.now.net.now c.args.problem.now.adjacency.now c.args.sought.now.filling.now.amounts c.args.sought.now.power c.args.levels.now c.args.problem.now.sink (next_up c child) c.loop-node.path child
 up c child is differ h =
     let net = c.args.problem.now.net.now in
@@ -185,18 +185,18 @@ overflow_add-next c =
     let next1 = set c.loop-node.next c.loop-node.node c.next_place-place.result in
     let bound = state.bounded child state.known in
     let mine = get_or-set_same next1 child (get_or next1 child 0 + 1) 0 (omega (arith, state.known, length-set c.loop-node.next c.loop-node.node c.next_place-place.result, next_len a)) in
-    let s = row_short c.args.problem.now.adjacency.now child in
+    let s = c.requires.lawful.links.short child state.known in
     let few = c.pipes-pipes.ensures.lawful.few_pipes in
-    omega (arith, bound, mine, s, few, c.requires.lawful.links.size)
+    omega (arith, bound, mine, s, few)
 
 pub loop-node-smaller : goal.loop-node-smaller
 loop-node-smaller c =
     let a = (goal.at.loop-node-smaller c).After-next_place-place in
     let child = c.end_node-node.result in
-    let limit = length c.args.problem.now.adjacency.now.links.items in
+    let limit = 2 * length c.args.problem.now.net.now.pipes in
     let state = up a child (child_is a child c.end_node-node.ensures) c.if-node-problem.false c.if-place-row.false in
     let bound = sum_bounded limit (next_up a child)
-    (λ v h. let b = state.bounded v (let l = next_up_len a child in omega (arith, h, l)) in let s = row_short c.args.problem.now.adjacency.now v in omega (arith, b, s)) in
+    (λ v h. let node : v < c.args.problem.now.net.now.nodes = let l = next_up_len a child in omega (arith, h, l) in omega (arith, state.bounded v node, c.requires.lawful.links.short v node)) in
     let same : length (next_up a child) ≡ length c.loop-node.next = next_up_len a child ∙ sym (next_len a) in
     let node : c.loop-node.node < length c.loop-node.next = let k = c.loop-node.invariant.state.known in omega (arith, k, next_len a) in
     try_raise limit c.loop-node.next c.loop-node.node c.next_place-place.result child c.loop-node.path
@@ -214,5 +214,5 @@ loop-node-preserved c =
 
 pub next_place-place-requires-clause-links : goal.next_place-place-requires-clause-links
 next_place-place-requires-clause-links c =
-    row_leads c.args.problem.now.net.now c.args.problem.now.adjacency.now c.loop-node.node c.pipes-pipes.result.now c.row-row.result.now (length c.args.levels.now)
-    c.pipes-pipes.ensures.lawful c.requires.lawful.links c.loop-node.invariant.state.known c.pipes-pipes.ensures.value c.row-row.ensures c.requires.levels
+    row_leads c.args.problem.now.net.now c.args.problem.now.adjacency.now c.loop-node.node c.pipes-pipes.result.now c.list-row.result.now (length c.args.levels.now)
+    c.pipes-pipes.ensures.lawful c.requires.lawful.links c.loop-node.invariant.state.known c.pipes-pipes.ensures.value c.list-row.ensures c.requires.levels

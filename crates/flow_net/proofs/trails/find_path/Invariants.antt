@@ -1,4 +1,4 @@
-use Rattle.std.proofs.Common.{length}
+use Rattle.std.proofs.Common.{◌*◌, length}
 use Rattle.flow_net.specs.Levels.{level_of}
 use Rattle.flow_net.specs.Trails.{HaveWays}
 use Rattle.flow_net.proofs.Trailing.{Trailing, to_try}
@@ -15,4 +15,4 @@ invariant-loop-node l =
     }
 
 abbrev pub decreases-loop-node : goal.decreases-loop-node
-decreases-loop-node l = to_try (length l.problem.adjacency.now.links.items) l.next (length l.path) (level_of l.levels l.node)
+decreases-loop-node l = to_try (2 * length l.problem.net.now.pipes) l.next (length l.path) (level_of l.levels l.node)
