@@ -1,0 +1,13 @@
+pub mod Documents
+pub mod Errors
+pub mod Grammar
+pub mod Judgements
+pub mod Laws
+pub mod Lines
+pub mod Multipliers
+pub mod Sets
+pub mod Spent
+pub mod Trees
+pub mod Valid
+pub mod Within
+pub mod Words
