@@ -1,0 +1,4 @@
+pub mod Ends
+pub mod Named
+pub mod Rules
+pub mod Searched
