@@ -29,15 +29,15 @@ pub record Mirrors (device : DeviceState) (m : Medium) : Type 0 where
   pub newest : (i : ℕ) → i < room_of device → slice_index device.newest i ≡ newest_at m.touches i
 
 -- bytes that fit a room, which is there
-pub record HasRoom (room : ℕ) (bytes : Vec ℕ Global) : Type 0 where
+pub record FitsCapacity (room : ℕ) (bytes : Vec ℕ Global) : Type 0 where
   pub within : length bytes.items ≤ room
   pub capacity : room ≤ vec_capacity bytes
 
 -- all that a device keeps fits its room
 pub record FitsRoom (room : ℕ) (begun now last newest : Vec ℕ Global) (low high : ℕ) : Type 0 where
-  pub base : HasRoom room begun
-  pub image : HasRoom room now
-  pub synced : HasRoom room last
+  pub base : FitsCapacity room begun
+  pub image : FitsCapacity room now
+  pub synced : FitsCapacity room last
   pub newest_room : length newest.items ≡ room
   pub least : low ≤ room
   pub greatest : high ≤ room
