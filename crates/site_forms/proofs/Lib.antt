@@ -9,3 +9,4 @@ pub mod NameTests
 pub mod Records
 pub mod Small
 pub mod Walks
+pub mod Whole

@@ -1,6 +1,6 @@
 // Laws of the forms: of logs and halves, of records, and of what they fold to.
 ghost use Rattle.std.specs.Prelude.{◌≡◌, ◌≢◌, ◌+◌, ◌^◌, ◌<◌, ◌≤◌, ℕ, List, [], ◌∷◌, ◌++◌, length, take, drop, slice_index, slice_index_or, All, Option, Some, None, ◌↔◌, true};
-ghost use Rattle.site_forms.specs.Logs.{parse, framed, log_size, IsBody, HasBodyAt};
+ghost use Rattle.site_forms.specs.Logs.{parse, framed, blocks, log_size, IsBody, HasBodyAt};
 ghost use Rattle.site_forms.specs.Logs.Parsed.{Good, Bad};
 ghost use Rattle.site_forms.specs.Halves.{half_record, half_number, generation, stronger, in_force, without_half, IsBelow, IsClosed};
 ghost use Rattle.site_forms.specs.Halves.Half.{First, Second};
@@ -27,6 +27,9 @@ pub fn log_laws()
     ensures lawful { (image : List ℕ) (bodies : List (List ℕ)) (gate : ℕ) → parse image ≡ Good bodies gate → All IsBody bodies }
     ensures within { (image : List ℕ) (bodies : List (List ℕ)) (gate i : ℕ) → parse image ≡ Good bodies gate → i < length bodies
         → HasBodyAt image (log_size (take i bodies)) (slice_index_or bodies i []) }
+    // the blocks of bodies behind one another, and a closed gate
+    ensures whole { (bodies : List (List ℕ)) (gate : ℕ) (junk : List ℕ) → All IsBody bodies → gate ≢ 1 → log_size bodies < 2 ^ 40
+        → parse (blocks bodies ++ gate ∷ junk) ≡ Good bodies (log_size bodies) }
 {}
 
 /// The laws of halves.
