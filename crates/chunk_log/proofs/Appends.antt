@@ -121,16 +121,16 @@ module _ {D : Type 0} (moment : D → ℕ) (left_since : D → ℕ → Images �
 
   -- RUN OF APPENDS: over the append that comes next a crash leaves the records after some of the plan's appends; and
   -- once it is done all places stand with one more
-  pub run_next : {mid new : D} {d e : Disk} {i : ℕ} {logs : ℕ → LogValue} {log after : LogValue} {body : List ℕ} {result : Result ℕ AppendError} (place : ℕ) → take (suc i) plan ≡ take i plan ++ (place, body) ∷ [] → place ≤ 2
-      → half_number body ≡ 0 → logs place ≡ log → SoFar mid d i logs → Appended moment left_since mid new d e log after body result → Passes moment left_since old new (HoldsPart plan records)
+  pub run_next : {disk : D → Disk} {mid new : D} {d e : Disk} {i : ℕ} {logs : ℕ → LogValue} {log after : LogValue} {body : List ℕ} {result : Result ℕ AppendError} (place : ℕ) → take (suc i) plan ≡ take i plan ++ (place, body) ∷ [] → place ≤ 2
+      → half_number body ≡ 0 → logs place ≡ log → SoFar mid d i logs → Appended disk moment left_since mid new d e log after body result → Passes moment left_since old new (HoldsPart plan records)
   run_next {mid = mid} {new = new} {d = d} {i = i} {logs = logs} {body = body} place next is_place plain is so_far call =
       let done = after_all (take i plan) records in
       follows_on moment left_since old mid new (HoldsPart plan records) (λ x. (b : Images) × Crash d b × OneMoreAt place body b x) so_far.passes
       (call.moments place (done place) plain (subst (λ (l : LogValue). LogStands place (done place) l d) is (so_far.stand place is_place)))
       (λ x was. part_on plan records i place body was.0 x (longer plan i place body next) next is_place (all_settled logs done d was.0 so_far.stand was.1) was.2)
 
-  pub run_ok : {mid new : D} {d e : Disk} {i : ℕ} {logs : ℕ → LogValue} {log after : LogValue} {body : List ℕ} {result : Result ℕ AppendError} (place : ℕ) → take (suc i) plan ≡ take i plan ++ (place, body) ∷ [] → place ≤ 2
-      → half_number body ≡ 0 → logs place ≡ log → SoFar mid d i logs → Appended moment left_since mid new d e log after body result → OnOk result (SoFar new e (suc i) (with_log place after logs))
+  pub run_ok : {disk : D → Disk} {mid new : D} {d e : Disk} {i : ℕ} {logs : ℕ → LogValue} {log after : LogValue} {body : List ℕ} {result : Result ℕ AppendError} (place : ℕ) → take (suc i) plan ≡ take i plan ++ (place, body) ∷ [] → place ≤ 2
+      → half_number body ≡ 0 → logs place ≡ log → SoFar mid d i logs → Appended disk moment left_since mid new d e log after body result → OnOk result (SoFar new e (suc i) (with_log place after logs))
   run_ok {d = d} {e = e} {i = i} {logs = logs} {after = after} {body = body} {result = result} place next is_place plain is so_far call =
       let done = after_all (take i plan) records in
       on_ok_weaker result

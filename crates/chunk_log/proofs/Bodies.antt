@@ -1,5 +1,5 @@
 -- What a crash leaves of a log while a body is added.
-use Rattle.std.proofs.Common.{◌≡◌, ◌≢◌, inl, inr, ℕ, ◌+◌, ◌^◌, ◌<◌, ◌≤◌, List, [], ◌∷◌, ◌++◌, length, get_or, take, drop, refl, sym, ◌∙◌, ap, arith, length-drop}
+use Rattle.std.proofs.Common.{◌≡◌, ◌≢◌, inl, inr, ℕ, ◌+◌, ◌^◌, ◌<◌, ◌≤◌, List, [], ◌∷◌, ◌++◌, length, get_or, take, drop, sym, ◌∙◌, ap, arith, length-drop}
 use Rattle.std.specs.Prelude.{slice_index}
 use Rattle.std.proofs.lemmas.Bool.{cases_eq}
 use Rattle.std.proofs.lemmas.List.{take-take, get_or-take, get_or-drop, drop_more}
@@ -11,7 +11,7 @@ use Rattle.volume_disk.proofs.Within.{one_write_itself, take_written, drop_writt
 use Rattle.volume_disk.proofs.Leads.{one_write_at}
 use Rattle.site_forms.specs.Logs.{parse, IsLog, IsSameOrMore, framed}
 use Rattle.site_forms.proofs.Logs.{agree, extend, next_gate, shut}
-use Rattle.chunk_log.specs.Bodies.{OneBodyMoreAt}
+use Rattle.chunk_log.specs.Bodies.{OneBodyMoreAt, SameBodiesAt}
 
 -- the same up to a place
 same_front : (image c : List ℕ) (place : ℕ) → take (place + 1) c ≡ take (place + 1) image → take place c ≡ take place image
@@ -66,13 +66,19 @@ appended image body junk bodies place log behind some most room =
     }
 
 -- while the frame is put down the log is as it was
-pub frame_leads : (dev place : ℕ) (image frame body : List ℕ) (bodies : List (List ℕ)) (d : Disk) (b c : Images) → dev ≤ 5 → d dev ≡ at_rest image → IsLog image bodies place → Crash d b
-    → OneWriteAt dev (place + 1) frame b c → OneBodyMoreAt dev bodies body place b c
-frame_leads dev place image frame body bodies d b c is_device rest log crash one = record {
+pub frame_keeps : (dev place : ℕ) (image frame : List ℕ) (bodies : List (List ℕ)) (d : Disk) (b c : Images) → dev ≤ 5 → d dev ≡ at_rest image → IsLog image bodies place → Crash d b
+    → OneWriteAt dev (place + 1) frame b c → SameBodiesAt dev bodies place b c
+frame_keeps dev place image frame bodies d b c is_device rest log crash one = record {
   elsewhere = one.elsewhere;
   before = ap parse (crash_at_rest dev image d b is_device rest crash) ∙ log.good;
-  here = inl (behind_gate image (c dev) frame bodies place log (one_write_at dev (place + 1) frame image d b c is_device rest crash one)).good;
+  here = (behind_gate image (c dev) frame bodies place log (one_write_at dev (place + 1) frame image d b c is_device rest crash one)).good;
 }
+
+pub frame_leads : (dev place : ℕ) (image frame body : List ℕ) (bodies : List (List ℕ)) (d : Disk) (b c : Images) → dev ≤ 5 → d dev ≡ at_rest image → IsLog image bodies place → Crash d b
+    → OneWriteAt dev (place + 1) frame b c → OneBodyMoreAt dev bodies body place b c
+frame_leads dev place image frame body bodies d b c is_device rest log crash one =
+    let same = frame_keeps dev place image frame bodies d b c is_device rest log crash one in
+    record { elsewhere = same.elsewhere; before = same.before; here = inl same.here }
 
 -- while the gate is put down there is one more body or none
 pub gate_leads : (dev place : ℕ) (image body junk : List ℕ) (bodies : List (List ℕ)) (d : Disk) (b mid c : Images) → dev ≤ 5 → d dev ≡ at_rest image → IsLog image bodies place → drop (place + 1) image ≡ framed body ++ junk

@@ -1,9 +1,14 @@
 pub mod Appended
 pub mod Appends
+pub mod Beside
 pub mod Blanks
 pub mod Bodies
+pub mod HalfBlocks
+pub mod HalfFound
 pub mod Opened
+pub mod PlaceHalves
 pub mod Quiets
 pub mod Reaching
+pub mod Shutting
 pub mod Standing
 pub mod Walked

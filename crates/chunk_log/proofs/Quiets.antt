@@ -1,9 +1,8 @@
 -- Runs of calls that leave nothing new.
-use Rattle.std.proofs.Common.{◌≡◌, ℕ, ◌≤◌, refl, ◌∙◌, sym}
-use Rattle.volume_disk.specs.Medium.{MayLeave}
+use Rattle.std.proofs.Common.{ℕ, ◌≤◌, refl, ◌∙◌}
 use Rattle.volume_disk.specs.Disk.{Disk, Images, Crash, SameDisk}
 use Rattle.volume_disk.specs.Time.{Elapses, Passes}
-use Rattle.volume_disk.proofs.Moments.{begins, follows_on, weaker, holds_now}
+use Rattle.volume_disk.proofs.Moments.{begins, follows_on, holds_now}
 use Rattle.volume_disk.proofs.Leads.{goes_on_same}
 use Rattle.chunk_log.specs.Quiet.{Quiet}
 

@@ -1,10 +1,9 @@
 -- The walk over the gates of an image.
-use Rattle.std.proofs.Common.{◌≡◌, ◌≢◌, ◌⊎◌, inl, inr, ⊎_elim, ℕ, zero, suc, ◌+◌, ◌-◌, ◌^◌, ◌<◌, ◌≤◌, List, [], ◌∷◌, ◌++◌, length, get_or, take, drop, Bool, true, false, refl, sym, ◌∙◌, ap, subst, arith, length-drop}
-use Rattle.std.specs.Prelude.{slice_index, nat_le, nat_lt, ◌==◌, ◌&&◌, if◌then◌else◌, min}
-use Rattle.std.specs.Int.{w32, from_be_bytes}
-use Rattle.std.proofs.lemmas.Bool.{cases_Bool, eqb-true, eqb-false}
-use Rattle.std.proofs.lemmas.List.{drop-drop, get_or-drop, length-take, append_assoc}
-use Rattle.site_forms.specs.Logs.{Parsed, parse, parse_from, body_length, is_block, more, IsLog}
+use Rattle.std.proofs.Common.{◌≡◌, ℕ, suc, ◌+◌, ◌-◌, ◌<◌, ◌≤◌, List, [], ◌∷◌, ◌++◌, length, get_or, take, drop, Bool, true, false, refl, sym, ◌∙◌, ap, subst, arith, length-drop}
+use Rattle.std.specs.Prelude.{◌==◌, ◌&&◌, if◌then◌else◌, min}
+use Rattle.std.proofs.lemmas.Bool.{eqb-false}
+use Rattle.std.proofs.lemmas.List.{drop-drop, get_or-drop, length-take}
+use Rattle.site_forms.specs.Logs.{Parsed, parse_from, body_length, is_block, more}
 use Rattle.site_forms.specs.Logs.Parsed.{Good, Bad}
 use Rattle.site_forms.proofs.Logs.{not_blank}
 use Rattle.chunk_log.specs.declared.gates.Gate.{Gate}

@@ -1,5 +1,5 @@
 -- What stands at a gate.
-use Rattle.std.specs.Prelude.{◌≡◌, ℕ, ◌+◌, ◌^◌, ◌<◌, ◌≤◌, ◌==◌, Bool, ◌&&◌, nat_le, nat_lt, List, length, drop, slice_index, if◌then◌else◌}
+use Rattle.std.specs.Prelude.{ℕ, ◌+◌, ◌^◌, ◌<◌, ◌≤◌, ◌==◌, Bool, ◌&&◌, nat_le, nat_lt, List, length, drop, slice_index, if◌then◌else◌}
 use Rattle.std.specs.Int.{w32, from_be_bytes}
 use Rattle.chunk_log.specs.declared.gates.Gate.{Gate}
 use Rattle.chunk_log.specs.declared.gates.Gate.TheVariants.{Shut, Broken, Open}

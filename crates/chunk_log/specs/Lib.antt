@@ -2,9 +2,13 @@ pub mod Appending
 pub mod Bodies
 pub mod Frames
 pub mod Gates
+pub mod HalfWriting
 pub mod LogValues
 pub mod Opening
+pub mod PlaceHalves
 pub mod Quiet
+pub mod Retiring
 pub mod Runs
+pub mod Shutting
 pub mod Standing
 pub mod Walking

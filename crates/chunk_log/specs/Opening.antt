@@ -1,5 +1,5 @@
 -- What opening a device does.
-use Rattle.std.specs.Prelude.{◌≡◌, ℕ, ◌+◌, ◌^◌, ◌<◌, ◌≤◌, false, List, length, Result, IfOk, Ok, Err}
+use Rattle.std.specs.Prelude.{◌≡◌, ℕ, ◌^◌, ◌<◌, false, nat_le, List, [], ◌∷◌, length, Result, IfOk, Ok, Err, if◌then◌else◌}
 use Rattle.volume_disk.specs.Medium.{Medium, at_rest}
 use Rattle.volume_disk.specs.Disk.{Disk, Images, Crash, SameElsewhere}
 use Rattle.volume_disk.specs.Time.{Passes}
@@ -26,9 +26,14 @@ abbrev pub Finds : List ℕ → Found → Type 0
 Finds image (End gate) = IsLogTo image gate
 Finds image (BadGate gate) = parse image ≡ Bad gate
 
--- a device at rest that says what an image says: the same bodies and the same generation, with a closed gate at the end
+-- an image, or a closed gate where it is blank
+abbrev pub with_gate : List ℕ → List ℕ
+with_gate image = if nat_le (length image) 1 then 0 ∷ [] else image
+
+-- a device at rest with an image, or with a gate where that is blank: it says the same, with a closed gate at the end
 pub record OpenedAs (image : List ℕ) (m : Medium) (gate : ℕ) : Type 0 where
   pub now : List ℕ
+  pub is : now ≡ with_gate image
   pub rest : m ≡ at_rest now
   pub bodies : List (List ℕ)
   pub told : parse image ≡ Good bodies gate

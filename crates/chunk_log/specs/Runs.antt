@@ -1,7 +1,7 @@
 -- Runs of appends to the logs of the three places.
-use Rattle.std.specs.Prelude.{◌≡◌, ℕ, ◌+◌, ◌≤◌, ◌==◌, List, [], ◌∷◌, ◌++◌, length, take, Some, if◌then◌else◌}
+use Rattle.std.specs.Prelude.{◌≡◌, ℕ, ◌≤◌, ◌==◌, List, [], ◌∷◌, ◌++◌, length, take, Some, if◌then◌else◌}
 use Rattle.volume_disk.specs.Disk.{Disk, Images}
-use Rattle.site_forms.specs.Halves.{records_at, half_number}
+use Rattle.site_forms.specs.Halves.{records_at}
 use Rattle.chunk_log.specs.LogValues.{LogValue}
 use Rattle.chunk_log.specs.Standing.{LogStands}
 

@@ -1,11 +1,12 @@
 -- A log that stands for a place of the disk.
-use Rattle.std.specs.Prelude.{◌≡◌, ◌⊎◌, ℕ, ◌+◌, ◌<◌, ◌≤◌, List, length, IsSome, false}
+use Rattle.std.specs.Prelude.{◌≡◌, ℕ, ◌+◌, ◌≤◌, List, IsSome, false}
 use Rattle.volume_disk.specs.Medium.{Medium, MayLeave, at_rest}
 use Rattle.volume_disk.specs.Disk.{Disk}
 use Rattle.site_forms.specs.Logs.{IsLog}
-use Rattle.site_forms.specs.Halves.{Half, device, generation, without_half, IsBelow, IsClosed}
+use Rattle.site_forms.specs.Halves.{Half, device, generation, without_half, IsBelow}
 use Rattle.site_forms.specs.Halves.Half.{First, Second}
 use Rattle.chunk_log.specs.LogValues.{LogValue}
+use Rattle.chunk_log.specs.Shutting.{IsGuarded}
 
 -- a half among the two of its place, and the one beside it
 abbrev pub half_of : Half → Medium → Medium → Medium
@@ -16,10 +17,11 @@ abbrev pub beside : Half → Medium → Medium → Medium
 beside First first second = second
 beside Second first second = first
 
--- a half that no crash brings into force beside one of this generation: at rest with none or a lower one, or closed in
--- whatever a crash leaves
-abbrev pub IsDormant : List ℕ → Medium → Type 0
-IsDormant image m = ((m ≡ at_rest m.image) × IsBelow (generation m.image) (generation image)) ⊎ ((y : List ℕ) → MayLeave m y → IsClosed y)
+-- a half that no crash brings into force beside one with this image: whatever a crash leaves of it has no generation, or
+-- a lower one; and what is pending there lies behind a closed gate
+pub record IsDormant (image : List ℕ) (m : Medium) : Type 0 where
+  pub lower : (y : List ℕ) → MayLeave m y → IsBelow (generation y) (generation image)
+  pub guarded : IsGuarded m
 
 -- of the two devices of a place this half is at rest, with these records and a closed gate at the end, and the other
 -- half is dormant; the second half is in force only with a generation

@@ -1,5 +1,6 @@
 -- What a walk over a log and a read of it answer.
-use Rattle.std.specs.Prelude.{◌≡◌, ℕ, ◌+◌, ◌^◌, ◌<◌, ◌≤◌, List, length, take, drop, Option, Some, None, Result, Ok, Err}
+use Rattle.std.specs.Prelude.{◌≡◌, ℕ, ◌+◌, ◌^◌, ◌<◌, ◌≤◌, List, length, take, drop, slice_index, Option, Some, None, Result, Ok, Err}
+use Rattle.std.specs.Int.{w32, from_be_bytes}
 use Rattle.chunk_log.specs.declared.errors.LogError.{LogError}
 use Rattle.chunk_log.specs.declared.errors.LogError.TheVariants.{RackFault, Damage}
 use Rattle.chunk_log.specs.declared.gates.Gate.{Gate}
@@ -21,6 +22,23 @@ Walks log at (Ok None) = at ≡ log.end
 Walks log at (Ok (Some place)) = (at < log.end) × IsStep log at place
 Walks log at (Err (Damage device gate)) = (at < log.end) × (device ≡ log.device) × (gate ≡ at)
 Walks log at (Err RackFault) = at < log.end
+
+-- an open gate at a place of an image, and behind it the length of a body of n bytes, where the gate behind that body
+-- stands at or before an end
+pub record HasBlock (image : List ℕ) (at end n : ℕ) : Type 0 where
+  pub is_open : slice_index image at ≡ 1
+  pub whole : at + 5 ≤ length image
+  pub size : from_be_bytes w32 (take 4 (drop (at + 1) image)) ≡ n
+  pub some : 1 ≤ n
+  pub most : n ≤ 2 ^ 24
+  pub inside : at + 5 + n ≤ end
+
+-- a body is answered where there is a block, and damage where there is none
+abbrev pub FindsBlock : List ℕ → ℕ → ℕ → Result (Option Place) LogError → Type 0
+FindsBlock image at end (Ok None) = Unit {0}
+FindsBlock image at end (Ok (Some place)) = HasBlock image at end place.len
+FindsBlock image at end (Err (Damage device gate)) = (n : ℕ) → ¬ HasBlock image at end n
+FindsBlock image at end (Err RackFault) = Unit {0}
 
 -- the place of a body behind a gate
 abbrev pub place_behind : ℕ → ℕ → Place

@@ -1,5 +1,6 @@
 // Frames: a body with its gates, ready to be written.
 ghost use Rattle.std.specs.Prelude.{◌≡◌, ◌+◌, ◌^◌, ◌≤◌, ◌++◌, [], ◌∷◌, length, IfOk, vec_len, vec_capacity};
+ghost use Rattle.std.specs.Int.{w32, to_be_bytes};
 ghost use Rattle.site_forms.specs.Logs.{framed};
 
 use seed_model::NoMemory;
@@ -69,6 +70,22 @@ impl Frame {
         ensures most { length self.now.body ≤ LONGEST_BODY }
     {
         &self.bytes[1..]
+    }
+
+    /// The block of the body: the open gate, the length and the body.
+    pub(crate) fn block(&self) -> &[u8]
+        requires { 1 ≤ length self.now.body }
+        ensures { result.now ≡ 1 ∷ to_be_bytes w32 (length self.now.body) ++ self.now.body }
+    {
+        &self.bytes[..self.bytes.len() - 1]
+    }
+
+    /// The block of the body without its gate.
+    pub(crate) fn first_block(&self) -> &[u8]
+        requires { 1 ≤ length self.now.body }
+        ensures { result.now ≡ to_be_bytes w32 (length self.now.body) ++ self.now.body }
+    {
+        &self.bytes[1..self.bytes.len() - 1]
     }
 }
 

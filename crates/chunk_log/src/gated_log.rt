@@ -6,7 +6,7 @@ ghost use Rattle.site_forms.specs.Logs.Parsed.{Good};
 ghost use Rattle.chunk_log.specs.Appending.{Appends, Appended, IsUntouched, Noted};
 ghost use Rattle.chunk_log.specs.Opening.{Answers, Opened};
 ghost use Rattle.chunk_log.specs.Quiet.{Quiet};
-ghost use Rattle.chunk_log.specs.Walking.{Walks, WalksTo, placed, place_behind, ReadsBytes, NamesPlace};
+ghost use Rattle.chunk_log.specs.Walking.{Walks, FindsBlock, WalksTo, placed, place_behind, ReadsBytes, NamesPlace};
 ghost use Rattle.chunk_log.specs.declared.errors.AppendError.TheVariants.{RackFault as AppendFault};
 ghost use Rattle.chunk_log.specs.declared.errors.LogError.TheVariants.{RackFault, Damage};
 ghost use Rattle.chunk_log.specs.Gates.{IsGate};
@@ -64,6 +64,21 @@ impl Log {
         }
     }
 
+    // A log that ends at a gate.
+    pub(crate) fn at(device: u8, limit: u64, end: u64, spent: bool) -> Log
+        requires device { device ≤ 5 }
+        requires limit { limit ≤ 2 ^ 40 }
+        requires below { end < 2 ^ 40 }
+        ensures { result ≡ record { device = device; limit = limit; end = end; spent = spent } }
+    {
+        Log {
+            device,
+            limit,
+            end,
+            spent,
+        }
+    }
+
     /// Adds the body of a frame, and answers its place: the frame behind the gate at the end and a sync, then the open
     /// gate and a sync. After a fault the log is spent. Takes no memory.
     pub fn append<R: Rack>(&mut self, rack: &mut R, frame: &Frame) -> Result<u64, AppendError>
@@ -72,7 +87,7 @@ impl Log {
         ensures honest { R.honest rack.new ≡ R.honest rack.old }
         ensures log { Appends self.old self.new (length frame.now.body) result }
         ensures untouched { IsUntouched rack.old rack.new result }
-        ensures appended { R.honest rack.old ≡ true → Appended R.moment R.left_since rack.old rack.new (R.disk rack.old) (R.disk rack.new) self.old self.new frame.now.body result }
+        ensures appended { R.honest rack.old ≡ true → Appended R.disk R.moment R.left_since rack.old rack.new (R.disk rack.old) (R.disk rack.new) self.old self.new frame.now.body result }
     {
         if self.spent {
             return Err(AppendError::Spent);
@@ -129,6 +144,7 @@ impl Log {
         ensures cause { HandsOn RackFault (R.faults rack.old) (R.faults rack.new) result }
         ensures honest { R.honest rack.new ≡ R.honest rack.old }
         ensures walks { Walks self.now at result }
+        ensures block { R.honest rack.old ≡ true → FindsBlock (R.disk rack.old self.now.device).image at self.now.end result }
         ensures quiet { R.honest rack.old ≡ true → Quiet R.moment R.left_since rack.old rack.new (R.disk rack.old) (R.disk rack.new) }
         ensures bodies { (bodies : List (List ℕ)) (i : ℕ) → R.honest rack.old ≡ true → parse (R.disk rack.old self.now.device).image ≡ Good bodies self.now.end → i < length bodies → at ≡ log_size (take i bodies)
             → WalksTo (place_behind at (length (slice_index_or bodies i []))) result }

@@ -37,7 +37,7 @@ pub(crate) fn append_at<R: Rack>(
     requires set { 1 ≤ length frame.now.body }
     ensures cause { HasCause Fault (R.faults rack.old) (R.faults rack.new) result }
     ensures honest { R.honest rack.new ≡ R.honest rack.old }
-    ensures appended { R.honest rack.old ≡ true → BodyAppended R.moment R.left_since rack.old rack.new (R.disk rack.old) (R.disk rack.new) device gate frame.now.body result }
+    ensures appended { R.honest rack.old ≡ true → BodyAppended R.disk R.moment R.left_since rack.old rack.new (R.disk rack.old) (R.disk rack.new) device gate frame.now.body result }
 {
     put_down(rack, device, gate + 1, frame.behind_gate())?;
     put_down(rack, device, gate, &[1])

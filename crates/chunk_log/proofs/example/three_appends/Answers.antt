@@ -1,4 +1,4 @@
-use Rattle.std.proofs.Common.{◌≡◌, ◌∙◌, ◌∷◌, [], List, ℕ, refl, arith}
+use Rattle.std.proofs.Common.{◌∙◌, ◌∷◌, [], List, ℕ, refl, arith}
 use Rattle.chunk_log.proofs.Appends.{run_begins, run_next, run_ok}
 use Rattle.chunk_log.proofs.example.three_appends.Goals as goal
 

@@ -1,6 +1,5 @@
-use Rattle.std.proofs.Common.{◌≡◌, ◌≤◌, ◌<◌, ◌+◌, ◌^◌, ℕ, List, length, take, drop, refl, sym, ◌∙◌, ap, subst, arith}
+use Rattle.std.proofs.Common.{◌≡◌, ◌+◌, ℕ, refl, sym, ◌∙◌, ap, subst, arith}
 use Rattle.volume_disk.specs.Medium.{Medium}
-use Rattle.chunk_log.specs.declared.gates.Gate.{Gate}
 use Rattle.chunk_log.specs.declared.gates.Gate.TheVariants.{Shut, Broken, Open}
 use Rattle.chunk_log.specs.Gates.{IsGate}
 use Rattle.chunk_log.proofs.Quiets.{quiet_begins, quiet_then}

@@ -1,6 +1,6 @@
 use Rattle.std.proofs.Common.{rules, ◌≡◌, ◌≤◌, ℕ, List, [], ◌∷◌, length, refl, sym, ◌∙◌, ap, subst, arith}
 use Rattle.std.proofs.lemmas.Result.{IfOk-weaker}
-use Rattle.volume_disk.specs.Medium.{Medium, at_rest}
+use Rattle.volume_disk.specs.Medium.{Medium}
 use Rattle.volume_disk.specs.Disk.{Images, Crash}
 use Rattle.volume_disk.specs.Left.{OneWriteAt}
 use Rattle.volume_disk.proofs.Moments.{begins, leads_on}
@@ -97,7 +97,7 @@ returns-clause-settled g c = λ honest.
     record {
       others = λ k out. (c.find_end.ensures.quiet honest_2).same k ∙ c.size.ensures.same honest_1 k ∙ (c.sync.ensures.disk honest).others k out;
       opens = IfOk-weaker c.find_end.result (Finds (rack.disk c.size.new.self c.args.device).image) (Opens image (rack.disk c.find_end.new.rack c.args.device))
-          (λ found finds. opened_from image _ ((c.find_end.ensures.quiet honest_2).same c.args.device ∙ rest) found (subst (λ (l : List ℕ). Finds l found) same finds))
+          (λ found finds. opened_from image _ (omega (arith, wide, long)) ((c.find_end.ensures.quiet honest_2).same c.args.device ∙ rest) found (subst (λ (l : List ℕ). Finds l found) same finds))
           (c.find_end.ensures.finds honest_2 (c.in_ok-size.ensures.value honest_1 ∙ sym (ap (λ (m : Medium). length m.image) (c.size.ensures.same honest_1 c.args.device))) wide);
       moments = goes_on_quiet rack.moment rack.left_since _ _ _ P _ _ (λ t x le crash. g.met.R.Rack.counts_now _ t x honest_2 le crash) two (c.find_end.ensures.quiet honest_2);
     }

@@ -1,0 +1,7 @@
+use Rattle.chunk_log.proofs.Appended.{log_settled}
+use Rattle.chunk_log.proofs.Appends.{stands_beside}
+use Rattle.chunk_log.proofs.HalfFound.{stands_outside}
+use Rattle.chunk_log.proofs.laws.place_laws.Goals as goal
+
+pub returns : goal.returns
+returns g = record { settled = log_settled; outside = stands_outside; beside = stands_beside }
