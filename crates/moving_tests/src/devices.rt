@@ -1,7 +1,10 @@
 // Racks in memory and over files, call by call.
+ghost use Rattle.std.specs.Prelude.{◌≤◌};
+
+use std::alloc::Global;
 use std::fs;
 use std::test::Fail;
-use volume_disk::{FolderRack, MemRack, Pick, Rack, RackError, hand_over};
+use volume_disk::{FolderRack, MemRack, Pick, Rack, hand_over};
 
 /// A call of a rack that answers no bytes. A device is numbered 0 to 5.
 #[derive(Clone, Copy)]
@@ -14,17 +17,14 @@ enum Call {
 
 use Call::{Cut, Size, Sync, Write};
 
-/// Makes a call. A device above 5 is a fault.
-fn make<R: Rack>(rack: &mut R, call: Call) -> Result<(), RackError> {
+/// Makes a call, and answers whether it fails. A device above 5 fails.
+fn fails<R: Rack>(rack: &mut R, call: Call) -> bool {
     match call {
-        Write(device, at, text) if device <= 5 => rack.write(device, at, text.as_bytes()),
-        Cut(device, len) if device <= 5 => rack.cut(device, len),
-        Sync(device) if device <= 5 => rack.sync(device),
-        Size(device) if device <= 5 => {
-            rack.size(device)?;
-            Ok(())
-        }
-        _ => Err(RackError::Fault),
+        Write(device, at, text) if device <= 5 => rack.write(device, at, text.as_bytes()).is_err(),
+        Cut(device, len) if device <= 5 => rack.cut(device, len).is_err(),
+        Sync(device) if device <= 5 => rack.sync(device).is_err(),
+        Size(device) if device <= 5 => rack.size(device).is_err(),
+        _ => true,
     }
 }
 
@@ -32,15 +32,33 @@ fn make<R: Rack>(rack: &mut R, call: Call) -> Result<(), RackError> {
 fn fail_at<R: Rack>(rack: &mut R, calls: &[Call], places: &[usize]) -> bool {
     let mut as_told = true;
     for (index, call) in calls.iter().enumerate() {
-        as_told &= make(rack, *call).is_err() == places.contains(&(index + 1));
+        as_told &= fails(rack, *call) == places.contains(&(index + 1));
     }
     as_told
 }
 
-/// A rack on which a device was synced and then written over, cut and written behind its end, a second one was synced and
-/// cut, and a third one was written and cut without a sync.
-fn pending(rt: &HostRuntime) -> Result<MemRack, Fail> {
-    let mut rack = MemRack::new(rt.alloc(), 16, 20, 60, Vec::new(rt.alloc())).ok_or("memory")?;
+/// Whether a read of up to eight bytes answers their number, and leaves these behind where nines stood.
+fn reads<R: Rack>(rack: &mut R, device: u8, at: u64, count: usize, want: [u8; 8]) -> bool
+    requires { device ≤ 5 }
+{
+    let mut into = [9u8; 8];
+    let answer = rack.read(device, at, &mut into);
+    answer == Ok(count) && into == want
+}
+
+/// Whether the first devices have these images.
+fn holds(rack: &MemRack, images: &[&[u8]]) -> bool {
+    let mut as_told = true;
+    for (device, image) in images.iter().enumerate() {
+        as_told &= device <= 5 && rack.image(device as u8) == *image;
+    }
+    as_told
+}
+
+/// Makes calls on a rack on which a device was synced and then written over, cut and written behind its end, a second
+/// one was synced and cut, and a third one was written and cut without a sync.
+fn pending(alloc: Global) -> Option<MemRack> {
+    let mut rack = MemRack::new(alloc, 16, 20, 60, Vec::new(alloc))?;
     let calls = [
         Write(0, 0, "abcd"),
         Sync(0),
@@ -54,94 +72,69 @@ fn pending(rt: &HostRuntime) -> Result<MemRack, Fail> {
         Cut(2, 1),
     ];
     if fail_at(&mut rack, &calls, &[]) {
-        Ok(rack)
+        Some(rack)
     } else {
-        Err("a call failed".into())
+        None
     }
 }
 
 #[test]
 fn reads_what_was_written(rt: HostRuntime) -> Result<(), Fail> {
-    let mut rack = pending(&rt)?;
-    assert_eq!(rt; rack.image(0), b"abX\0\0\0!".as_slice());
-    assert_eq!(rt; rack.image(1), b"ab".as_slice());
-    assert_eq!(rt; rack.image(2), b"p".as_slice());
-    assert_eq!(rt; rack.size(0)?, 7);
-    let mut into = [9u8; 4];
-    assert_eq!(rt; rack.read(0, 5, &mut into)?, 2);
-    assert_eq!(rt; into, [0, 33, 9, 9], "no byte behind the end");
-    assert_eq!(rt; rack.read(0, 7, &mut into)?, 0);
+    let mut rack = pending(rt.alloc()).ok_or("memory")?;
+    assert!(rt; holds(&rack, &[b"abX\0\0\0!", b"ab", b"p"]));
+    assert!(rt; rack.size(0) == Ok(7));
+    // No byte behind the end.
+    assert!(rt; reads(&mut rack, 0, 5, 2, *b"\0!\x09\x09\x09\x09\x09\x09"));
+    assert!(rt; reads(&mut rack, 0, 7, 0, [9; 8]));
     Ok(())
 }
 
 #[test]
-fn crash_keeps_old_bytes(rt: HostRuntime) -> Result<(), Fail> {
-    let mut rack = pending(&rt)?;
-    rack.crash(Pick::Old);
-    assert_eq!(rt; rack.image(0), b"abc".as_slice());
-    assert_eq!(rt; rack.image(1), b"ab".as_slice());
-    assert_eq!(rt; rack.image(2), b"".as_slice());
-    Ok(())
-}
-
-#[test]
-fn crash_keeps_new_bytes(rt: HostRuntime) -> Result<(), Fail> {
-    let mut rack = pending(&rt)?;
-    rack.crash(Pick::New);
-    assert_eq!(rt; rack.image(0), b"abX\0\0\0!".as_slice());
-    assert_eq!(rt;
-        rack.image(1),
-        b"ab\0\0\0\0".as_slice(),
-        "cut, and never written"
-    );
-    assert_eq!(rt; rack.image(2), b"pqrs".as_slice(), "written, and then cut");
-    Ok(())
-}
-
-#[test]
-fn crash_leaves_junk(rt: HostRuntime) -> Result<(), Fail> {
-    let mut rack = pending(&rt)?;
-    rack.crash(Pick::Junk(b'?'));
-    assert_eq!(rt; rack.image(0), b"ab?????".as_slice());
-    assert_eq!(rt; rack.image(1), b"ab????".as_slice());
-    assert_eq!(rt; rack.image(2), b"????".as_slice());
-    rack.crash(Pick::Old);
-    assert_eq!(rt;
-        rack.image(0),
-        b"ab?????".as_slice(),
-        "nothing is pending after a crash"
-    );
+fn a_crash_leaves_old_bytes_new_bytes_or_junk(rt: HostRuntime) -> Result<(), Fail> {
+    let cases: [(Pick, &[&[u8]]); 3] = [
+        (Pick::Old, &[b"abc", b"ab", b""]),
+        // The second device was cut, and never written; the third was written, and then cut.
+        (Pick::New, &[b"abX\0\0\0!", b"ab\0\0\0\0", b"pqrs"]),
+        (Pick::Junk(b'?'), &[b"ab?????", b"ab????", b"????"]),
+    ];
+    for (pick, images) in cases {
+        let mut rack = pending(rt.alloc()).ok_or("memory")?;
+        rack.crash(pick);
+        let after_one = holds(&rack, images);
+        rack.crash(Pick::Old);
+        assert!(rt;
+            after_one && holds(&rack, images),
+            "nothing is pending after a crash"
+        );
+    }
     Ok(())
 }
 
 #[test]
 fn failed_calls(rt: HostRuntime) -> Result<(), Fail> {
-    let mut fails = Vec::new(rt.alloc());
-    fails.push(2)?;
-    let mut rack = MemRack::new(rt.alloc(), 8, 20, 40, fails).ok_or("memory")?;
-    let calls = [Write(0, 0, "ab"), Sync(0)];
-    assert!(rt; fail_at(&mut rack, &calls, &[2]));
+    let mut listed = Vec::new(rt.alloc());
+    listed.push(2)?;
+    let mut rack = MemRack::new(rt.alloc(), 8, 20, 40, listed).ok_or("memory")?;
+    assert!(rt; fail_at(&mut rack, &[Write(0, 0, "ab"), Sync(0)], &[2]));
     rack.stop_at(4);
     let calls = [Write(0, 1, "c"), Write(0, 2, "d"), Cut(1, 1), Size(0)];
     assert!(rt; fail_at(&mut rack, &calls, &[2, 3, 4]), "stopped");
     rack.crash(Pick::New);
-    assert_eq!(rt;
-        rack.image(0),
-        b"acd".as_slice(),
-        "the failed write was done"
+    assert!(rt; holds(&rack, &[b"acd"]), "the failed write was done");
+    assert!(rt;
+        fail_at(&mut rack, &[Write(0, 3, "e")], &[]),
+        "no stop after a crash"
     );
-    let calls = [Write(0, 3, "e")];
-    assert!(rt; fail_at(&mut rack, &calls, &[]), "no stop after a crash");
     rack.crash(Pick::Old);
-    assert_eq!(rt; rack.image(0), b"acd".as_slice());
+    assert!(rt; holds(&rack, &[b"acd"]));
     Ok(())
 }
 
 #[test]
 fn refused_calls(rt: HostRuntime) -> Result<(), Fail> {
-    let mut fails = Vec::new(rt.alloc());
-    fails.push(5)?;
-    let mut rack = MemRack::new(rt.alloc(), 4, 4, 5, fails).ok_or("memory")?;
+    let mut listed = Vec::new(rt.alloc());
+    listed.push(5)?;
+    let mut rack = MemRack::new(rt.alloc(), 4, 4, 5, listed).ok_or("memory")?;
     let calls = [
         // behind the room
         Write(0, 3, "ab"),
@@ -156,12 +149,13 @@ fn refused_calls(rt: HostRuntime) -> Result<(), Fail> {
         Size(0),
     ];
     assert!(rt; fail_at(&mut rack, &calls, &[1, 3, 5, 7]));
-    assert_eq!(rt; rack.image(0), b"abcd".as_slice());
-    assert_eq!(rt; rack.image(1), b"e".as_slice());
+    assert!(rt; holds(&rack, &[b"abcd", b"e"]));
     rack.crash(Pick::New);
-    let calls = [Write(1, 1, "fgh")];
-    assert!(rt; fail_at(&mut rack, &calls, &[]), "a clean record");
-    assert_eq!(rt; rack.image(1), b"efgh".as_slice());
+    assert!(rt;
+        fail_at(&mut rack, &[Write(1, 1, "fgh")], &[]),
+        "a clean record"
+    );
+    assert!(rt; holds(&rack, &[b"abcd", b"efgh"]));
     Ok(())
 }
 
@@ -170,10 +164,9 @@ fn another_image(rt: HostRuntime) -> Result<(), Fail> {
     let mut rack = MemRack::new(rt.alloc(), 4, 9, 9, Vec::new(rt.alloc())).ok_or("memory")?;
     rack.set_image(3, b"abc");
     rack.write(4, 0, b"x")?;
-    assert_eq!(rt; rack.image(3), b"abc".as_slice());
+    assert!(rt; holds(&rack, &[b"", b"", b"", b"abc"]));
     rack.crash(Pick::Old);
-    assert_eq!(rt; rack.image(3), b"abc".as_slice());
-    assert_eq!(rt; rack.image(4), b"".as_slice());
+    assert!(rt; holds(&rack, &[b"", b"", b"", b"abc", b""]));
     Ok(())
 }
 
@@ -182,14 +175,12 @@ fn hands_over(rt: HostRuntime) -> Result<(), Fail> {
     let mut rack = MemRack::new(rt.alloc(), 4, 9, 9, Vec::new(rt.alloc())).ok_or("memory")?;
     rack.set_image(0, b"abc");
     hand_over(&mut rack, 0, 1, b"abc")?;
-    assert_eq!(rt; rack.image(0), b"".as_slice());
+    assert!(rt; holds(&rack, &[b"", b"abc"]));
     rack.crash(Pick::Old);
-    assert_eq!(rt;
-        rack.image(0),
-        b"".as_slice(),
-        "the cut is pending, but it never lengthens"
+    assert!(rt;
+        holds(&rack, &[b"", b"abc"]),
+        "a cut that is pending never lengthens"
     );
-    assert_eq!(rt; rack.image(1), b"abc".as_slice());
     Ok(())
 }
 
@@ -208,9 +199,7 @@ fn files_of_a_folder(rt: HostRuntime) -> Result<(), Fail> {
         Write(5, 6, ""),
     ];
     assert!(rt; fail_at(&mut rack, &calls, &[]));
-    let mut into = [9u8; 8];
-    assert_eq!(rt; rack.read(5, 0, &mut into)?, 6);
-    assert_eq!(rt; into.as_slice(), b"\0\0a\0\0\0\x09\x09".as_slice());
+    assert!(rt; reads(&mut rack, 5, 0, 6, *b"\0\0a\0\0\0\x09\x09"));
     fs::remove_file(&rt, "goseed.site/5")?;
     fs::remove_dir(&rt, "goseed.site")?;
     Ok(())

@@ -4,6 +4,8 @@
 #[cfg(test)]
 mod devices;
 #[cfg(test)]
+mod lines;
+#[cfg(test)]
 mod shelves;
 #[cfg(test)]
 mod two_racks;

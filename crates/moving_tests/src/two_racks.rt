@@ -8,16 +8,18 @@ fn second_rack(rt: HostRuntime) -> Result<(), Fail> {
     let mut rack = FolderRack::new(&rt);
     rack.write(4, 0, b"abc")?;
     let mut other = FolderRack::new(&rt);
-    assert_eq!(rt;
-        other.size(4),
-        Err(RackError::Fault),
+    let refused = [
+        other.size(4).err(),
+        other.write(4, 0, b"x").err(),
+        other.cut(4, 0).err(),
+    ];
+    assert!(rt;
+        refused == [Some(RackError::Fault); 3],
         "the folder is in use"
     );
-    assert_eq!(rt; other.write(4, 0, b"x"), Err(RackError::Fault));
-    assert_eq!(rt; other.cut(4, 0), Err(RackError::Fault));
     let mut into = [9u8; 4];
     assert_eq!(rt; rack.read(4, 0, &mut into)?, 3);
-    assert_eq!(rt; into, *b"abc\x09", "and nothing was harmed");
+    assert!(rt; into == *b"abc\x09", "and nothing was harmed");
     drop(rack);
     assert_eq!(rt; other.size(4)?, 3, "the folder is free");
     fs::remove_file(&rt, "goseed.site/4")?;

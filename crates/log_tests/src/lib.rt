@@ -1,0 +1,7 @@
+//! Tests of gated logs: what appends, halves and crashes leave.
+#![tactic(auto)]
+
+#[cfg(test)]
+mod halves;
+#[cfg(test)]
+mod logs;

@@ -1,0 +1,4 @@
+use Rattle.model_tests.proofs.flow.worked_net.Given as goal
+
+abbrev pub ghosts-flow_of : goal.ghosts-flow_of
+ghosts-flow_of g a = record { name = a.blank.name; parts = a.blank.parts }
