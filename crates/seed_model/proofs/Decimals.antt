@@ -6,7 +6,7 @@ use Rattle.seed_model.specs.Numbers.{IsNumeral}
 use Rattle.std.specs.Int.{IsInRange}
 use Rattle.std.specs.Str.{all_ascii_digits}
 use Rattle.std.specs.Str.Parse.{AllDigits, digits_value, digits_value_after}
-use Rattle.std.proofs.lemmas.List.{append-nil, drop-set, drop_all, get_or_default}
+use Rattle.std.proofs.lemmas.List.{append-nil, drop-set, drop_all, get_or_default, length-take-le}
 use Rattle.std.proofs.Math.ListN.{set}
 use Rattle.std.proofs.lemmas.Fmt.{decimal_digit, decimal_step_wide, decimal_by_steps_wide, decimal_is_IsNumeral_wide, length-decimal-le_wide}
 use Rattle.std.proofs.lemmas.Str.{digit_value_digit}
@@ -202,3 +202,12 @@ above_spaces n k d small lt =
   where
     above : (byte : ℕ) → IsInRange 48 57 byte → 32 < byte
     above byte digit = grind (arith, digit)
+
+-- one digit more than a few is below 2 ^ 64
+pub few_next : (ds : List ℕ) (i n : ℕ) → i < length ds → length ds ≤ 19 → AllDigits 10 (take i ds) → n ≡ digits_value 10 (take i ds) → n * 10 + 9 < 2 ^ 64
+few_next ds i n h few d e =
+    let below = digits_value-lt 10 (take i ds) d in
+    let long = length-take-le i ds (omega arith) in
+    let sum : i + (18 - i) ≡ 18 = omega arith in
+    let power = rw sum at (pow_ten i (18 - i)) in
+    omega (arith, rw long at below, power, e)

@@ -9,6 +9,9 @@ use crate::memory::NoMemory;
 /// The most digits of a number below 2^128.
 const MOST_DIGITS: usize = 39;
 
+/// As many digits as each number of so many is below 2^64.
+const FEW_DIGITS: usize = 19;
+
 /// Reads a number from 0 to `limit`, spelled in decimal with no sign and no leading zero. `None` where the text spells
 /// no such number.
 pub fn read_number(text: &[u8], limit: u128) -> Option<u128>
@@ -35,39 +38,39 @@ fn begins_as_number(text: &[u8]) -> bool
     text.len() == 1 || (text.len() > 1 && text[0] != b'0')
 }
 
-// The number that digits stand for, with any leading zeros. Most are below 2^64, where arithmetic is quick.
+// The number that digits stand for, with any leading zeros. Few digits make a number below 2^64, where arithmetic is
+// quick and no step can pass the bound.
 fn read_digits(text: &[u8]) -> Option<u128>
     ensures found { IfSome result (λ n. AllDigits 10 text.now × (n ≡ digits_value 10 text.now)) }
     ensures none { IfNone result (AllDigits 10 text.now → 2 ^ 128 ≤ digits_value 10 text.now) }
 {
-    match read_short_digits(text) {
+    if text.len() > FEW_DIGITS {
+        return read_many_digits(text);
+    }
+    match read_few_digits(text) {
         Some(number) => Some(number as u128),
-        None => read_long_digits(text),
+        None => None,
     }
 }
 
-// The same, where the number is below 2^64; else perhaps none.
-fn read_short_digits(text: &[u8]) -> Option<u64>
-    ensures { IfSome result (λ n. AllDigits 10 text.now × (n ≡ digits_value 10 text.now)) }
+// The same, of few digits.
+fn read_few_digits(text: &[u8]) -> Option<u64>
+    requires { length text.now ≤ FEW_DIGITS }
+    ensures found { IfSome result (λ n. AllDigits 10 text.now × (n ≡ digits_value 10 text.now)) }
+    ensures none { IfNone result (¬ AllDigits 10 text.now) }
 {
     let mut number: u64 = 0;
     for byte in text {
         if !byte.is_ascii_digit() {
             return None;
         }
-        let Some(tens) = number.checked_mul(10) else {
-            return None;
-        };
-        let Some(next) = tens.checked_add((*byte - b'0') as u64) else {
-            return None;
-        };
-        number = next;
+        number = number * 10 + (*byte - b'0') as u64;
     }
     Some(number)
 }
 
 // The same as `read_digits`, of any digits.
-fn read_long_digits(text: &[u8]) -> Option<u128>
+fn read_many_digits(text: &[u8]) -> Option<u128>
     ensures found { IfSome result (λ n. AllDigits 10 text.now × (n ≡ digits_value 10 text.now)) }
     ensures none { IfNone result (AllDigits 10 text.now → 2 ^ 128 ≤ digits_value 10 text.now) }
 {

@@ -2,7 +2,7 @@ use Rattle.std.proofs.Common.{arith, get_or}
 use Rattle.std.specs.Int.{IsInRange}
 use Rattle.std.proofs.lemmas.Str.Parse.{digit_at}
 use Rattle.seed_model.proofs.Decimals.{value_next, digits_next, too_great, too_great_next}
-use Rattle.seed_model.proofs.numbers.read_long_digits.Goals as goal
+use Rattle.seed_model.proofs.numbers.read_many_digits.Goals as goal
 
 pub returns-then-not-is_ascii_digit-clause-none : goal.returns-then-not-is_ascii_digit-clause-none
 returns-then-not-is_ascii_digit-clause-none c = λ d.
