@@ -1,5 +1,5 @@
 -- What a row does to a recipe, and why it is refused.
-use Rattle.std.specs.Prelude.{codes}
+use Rattle.std.specs.Prelude.{codes, Result, Ok, Err, OnOk}
 use Rattle.std.proofs.Common.{◌≡◌, ◌≢◌, ◌∷◌, ◌++◌, ◌+◌, ◌<◌, [], ℕ, List, Some, refl, length, get_or, arith, inl, inr}
 use Rattle.std.specs.List.{list_any}
 use Rattle.std.proofs.lemmas.Bool.{cases_Bool}
@@ -107,3 +107,9 @@ pub spells_fields : (fields : List (List ℕ)) (first second third file name sho
 spells_fields fields first second third file name shown size three one two last same lawful is_name named spelled unnamed =
     let split : fields ≡ first ∷ second ∷ third ∷ [] = rw (one, two, last) (three_fields fields three) in
     rw (same, is_name) (spells_row fields first second name third size split lawful named spelled unnamed)
+
+-- a row that is spelled and may follow is taken
+pub row_taken : {T E : Type 0} (result : Result T E) (before after : RecipeValue) (fields : List (List ℕ)) (row : Row) → SpellsRow fields row → OnOk result (after ≡ with_row before row)
+    → OnOk result (MayFollow before row) → OnOk result (TakesRow before fields after)
+row_taken (Ok value) before after fields row spelled taken follows = record { row = row; spelled = spelled; follows = follows; taken = taken }
+row_taken (Err error) before after fields row spelled taken follows = tt

@@ -1,5 +1,5 @@
 // The names of a recipe's files.
-ghost use Rattle.std.specs.Prelude.{◌≡◌, ◌<◌, ◌∷◌, ◌++◌, [], List, ℕ, length, false, slice_index_or, OnOk, OnErr};
+ghost use Rattle.std.specs.Prelude.{◌≡◌, ◌<◌, ◌∷◌, ◌++◌, [], List, ℕ, length, false, slice_index_or, OnSome, OnOk, OnErr};
 ghost use Rattle.std.specs.List.{list_any};
 ghost use Rattle.recipe_reader.specs.Recipes.{is_named};
 ghost use Rattle.list_facts.specs.Firsts.{IsNumberOf};
@@ -42,15 +42,23 @@ impl FileList {
         self.names.len()
     }
 
-    /// The number of a name. The last name is looked at first, since the rows of a file mostly stand together.
-    pub(crate) fn find(&self, name: &str) -> Option<usize>
-        ensures { IsNumberOf (is_named name.now) self.now result }
+    /// The number of the last name, where these bytes are that. The rows of a file mostly stand together, so this is
+    /// asked first.
+    pub(crate) fn find_last(&self, name: &[u8]) -> Option<usize>
+        ensures { OnSome result (IsNumberOf (is_named name.now) self.now result) }
     {
         if let Some(last) = self.names.last() {
-            if name == last.as_str() {
+            if name == last.as_bytes() {
                 return Some(self.names.len() - 1);
             }
         }
+        None
+    }
+
+    /// The number of a name.
+    pub(crate) fn find(&self, name: &str) -> Option<usize>
+        ensures { IsNumberOf (is_named name.now) self.now result }
+    {
         self.names.get_index_of(name)
     }
 

@@ -1,5 +1,5 @@
 // Recipes from rows of text.
-ghost use Rattle.std.specs.Prelude.{◌≡◌, ◌≢◌, ◌<◌, ◌≤◌, [], List, ℕ, length, slice_index_or, IfOk, IfErr, IfSome, IfNone, OnOk};
+ghost use Rattle.std.specs.Prelude.{◌≡◌, ◌≢◌, ◌<◌, ◌≤◌, [], List, ℕ, length, slice_index_or, IfOk, IfErr, IfSome, IfNone, OnSome, OnOk};
 ghost use Rattle.csv.specs.Records.{fields_of};
 ghost use Rattle.csv_rows.specs.Rows.{rows_of};
 ghost use Rattle.file_names.specs.FileNames.{IsFileName};
@@ -10,7 +10,7 @@ ghost use Rattle.recipe_reader.specs.Reading.{IsFault, IsFirstFault, Leads, MayF
 ghost use Rattle.recipe_reader.specs.Recipes.{RecipeValue, IsFileOf, empty_recipe};
 ghost use Rattle.recipe_reader.specs.RecipeRows.{with_row};
 
-use crate::chunks::ChunkName;
+use crate::chunk::ChunkName;
 use crate::error::{AddError, GREATEST_SIZE, RecipeError};
 use crate::recipe::Recipe;
 use crate::row::{field, read_chunk_name, read_size};
@@ -29,6 +29,7 @@ pub fn read_recipe(alloc: Global, text: &[u8]) -> Result<Recipe, RecipeError>
     let mut rows = RowReader::new(alloc, text);
     let mut row = ByteRecord::new(alloc);
     let mut recipe = Recipe::for_text(alloc, text);
+    let mut name = ChunkName::new();
     for before in 0..u64::MAX {
         let Ok(found) = rows.next_row(&mut row) else {
             return Err(RecipeError::Memory);
@@ -36,14 +37,19 @@ pub fn read_recipe(alloc: Global, text: &[u8]) -> Result<Recipe, RecipeError>
         if !found {
             return Ok(recipe);
         }
-        take_row(&mut recipe, before + 1, &row)?;
+        take_row(&mut recipe, before + 1, &row, &mut name)?;
     }
     // No text has so many rows.
     unreachable!()
 }
 
-// Takes the row with this number.
-fn take_row(recipe: &mut Recipe, number: u64, row: &ByteRecord) -> Result<(), RecipeError>
+// Takes the row with this number; `room` is for the name of its chunk.
+fn take_row(
+    recipe: &mut Recipe,
+    number: u64,
+    row: &ByteRecord,
+    room: &mut ChunkName,
+) -> Result<(), RecipeError>
     ensures ok { OnOk result (TakesRow recipe.old (fields_of row.now) recipe.new) }
     ensures fault { IfErr result (λ e. e ≢ RecipeError.Memory → IsFault recipe.old number (fields_of row.now) e) }
 {
@@ -51,7 +57,7 @@ fn take_row(recipe: &mut Recipe, number: u64, row: &ByteRecord) -> Result<(), Re
         return Err(RecipeError::BadRow { row: number });
     }
     let text = field(row, 1);
-    let name = read_chunk_name(text);
+    let name = read_chunk_name(text, room);
     let size = read_size(text, field(row, 2));
     // The file and the chunk are looked up one behind the other, so that the machine can wait for both at once.
     let Some(file) = file_in(recipe, field(row, 0)) else {
@@ -66,10 +72,10 @@ fn take_row(recipe: &mut Recipe, number: u64, row: &ByteRecord) -> Result<(), Re
     add_row(recipe, number, file, name, size)
 }
 
-// A file as a row names it: the name, and the number where the recipe has the file.
+// A file as a row names it: the bytes of its name, and the number where the recipe has the file.
 #[derive(Drop)]
 struct RowFile<'a> {
-    name: &'a str,
+    name: &'a [u8],
     number: Option<u32>,
 }
 
@@ -79,6 +85,22 @@ fn file_in<'a>(recipe: &Recipe, bytes: &'a [u8]) -> Option<RowFile<'a>>
     ensures known { IfSome result (λ file. IfSome file.number (IsFileOf recipe.now file.name.now)) }
     ensures none { IfNone result (¬ IsFileName bytes.now) }
 {
+    let number = match recipe.last_file_named(bytes) {
+        Some(number) => Some(number),
+        None => number_in(recipe, bytes)?,
+    };
+    Some(RowFile {
+        name: bytes,
+        number,
+    })
+}
+
+// The number of the file that these bytes name, if the recipe has it. None where they are no file name.
+fn number_in(recipe: &Recipe, bytes: &[u8]) -> Option<Option<u32>>
+    ensures lawful { OnSome result (IsFileName bytes.now) }
+    ensures known { IfSome result (λ number. IfSome number (IsFileOf recipe.now bytes.now)) }
+    ensures none { IfNone result (¬ IsFileName bytes.now) }
+{
     let Ok(name) = str::from_utf8(bytes) else {
         return None;
     };
@@ -86,7 +108,7 @@ fn file_in<'a>(recipe: &Recipe, bytes: &'a [u8]) -> Option<RowFile<'a>>
     if number.is_none() && !is_file_name(name) {
         return None;
     }
-    Some(RowFile { name, number })
+    Some(number)
 }
 
 // Adds what a row says: a file, and that it uses a chunk, if one is named.
@@ -94,21 +116,21 @@ fn add_row(
     recipe: &mut Recipe,
     number: u64,
     file: RowFile<'_>,
-    name: ChunkName,
+    name: &ChunkName,
     size: u64,
 ) -> Result<(), RecipeError>
     requires file { IsFileName file.name.now }
     requires known { IfSome file.number (IsFileOf recipe.old file.name.now) }
-    requires name { 0 < length name.items → IsChunkName name.items }
+    requires name { 0 < length name.now → IsChunkName name.now }
     requires size { size ≤ GREATEST_SIZE }
-    ensures ok { OnOk result (recipe.new ≡ with_row recipe.old (row_of file.entry.name.now name.items size)) }
-    ensures follows { OnOk result (MayFollow recipe.old (row_of file.entry.name.now name.items size)) }
-    ensures fault { IfErr result (λ e. e ≢ RecipeError.Memory → IsRowFault recipe.old number (row_of file.entry.name.now name.items size) e) }
+    ensures ok { OnOk result (recipe.new ≡ with_row recipe.old (row_of file.entry.name.now name.now size)) }
+    ensures follows { OnOk result (MayFollow recipe.old (row_of file.entry.name.now name.now size)) }
+    ensures fault { IfErr result (λ e. e ≢ RecipeError.Memory → IsRowFault recipe.old number (row_of file.entry.name.now name.now size) e) }
 {
     let file = match recipe.add_known(file.name, file.number) {
         Ok(file) => file,
         Err(fault) => {
-            if let Some(first) = recipe.other_size(&name, size) {
+            if let Some(first) = recipe.other_size(name, size) {
                 return Err(RecipeError::SizeClash {
                     row: number,
                     first,

@@ -7,7 +7,8 @@ ghost use Rattle.recipe_reader.specs.Lawful.{IsChunkName, IsRecipe};
 ghost use Rattle.recipe_reader.specs.Limits.{KeepsSize};
 ghost use Rattle.recipe_reader.specs.Recipes.{IsFileOf, empty_recipe, bytes_of, name_at, size_at, is_named, is_chunk, is_pair, file_number, chunk_number, with_file, with_use, with_pair};
 
-use crate::chunks::{ChunkList, ChunkName, name_of};
+use crate::chunk::ChunkName;
+use crate::chunks::ChunkList;
 use crate::error::{AddError, GREATEST_SIZE, LONGEST_CHUNK_NAME, What};
 use crate::files::FileList;
 use crate::pairs::{PairError, PairList};
@@ -139,8 +140,19 @@ impl Recipe {
         }
     }
 
-    /// The same as `add_file`, of a name whose number may be known.
-    pub(crate) fn add_known(&mut self, name: &str, known: Option<u32>) -> Result<u32, AddError>
+    /// The number of the last file, where these bytes are its name: then they are a lawful one.
+    pub(crate) fn last_file_named(&self, name: &[u8]) -> Option<u32>
+        ensures number { IfSome result (IsFileOf self.now name.now) }
+        ensures lawful { OnSome result (IsFileName name.now) }
+    {
+        match self.files.find_last(name) {
+            Some(number) => Some(number as u32),
+            None => None,
+        }
+    }
+
+    /// The same as `add_file`, of the bytes of a name whose number may be known.
+    pub(crate) fn add_known(&mut self, name: &[u8], known: Option<u32>) -> Result<u32, AddError>
         requires name { IsFileName name.now }
         requires known { IfSome known (IsFileOf self.old name.now) }
         ensures ok { OnOk result (self.new ≡ with_file self.old name.now) }
@@ -150,9 +162,12 @@ impl Recipe {
         ensures recipe { IsRecipe self.new }
     {
         let _ = &self.files;
-        match known {
-            Some(number) => Ok(number),
-            None => self.add_file(name),
+        if let Some(number) = known {
+            return Ok(number);
+        }
+        match str::from_utf8(name) {
+            Ok(name) => self.add_file(name),
+            Err(_) => unreachable!(),
         }
     }
 
@@ -181,9 +196,9 @@ impl Recipe {
 
     /// The size of the chunk with this name, where it is there with another one.
     pub(crate) fn other_size(&self, chunk: &ChunkName, size: u64) -> Option<u64>
-        ensures some { IfSome result (λ first. (first ≢ size) × Contains self.now.chunks (record { name = chunk.now.items; size = first })) }
-        ensures named { OnSome result (0 < length chunk.now.items) }
-        ensures none { IfNone result (KeepsSize self.now (Some (record { name = chunk.now.items; size = size }))) }
+        ensures some { IfSome result (λ first. (first ≢ size) × Contains self.now.chunks (record { name = chunk.now; size = first })) }
+        ensures named { OnSome result (0 < length chunk.now) }
+        ensures none { IfNone result (KeepsSize self.now (Some (record { name = chunk.now; size = size }))) }
     {
         match self.chunks.find(chunk) {
             Some((_, first)) => {
@@ -210,27 +225,27 @@ impl Recipe {
         ensures recipe { IsRecipe self.new }
         ensures known { list_any (is_pair file (chunk_number self.old.chunks chunk.now)) self.old.pairs ≡ true → KeepsSize self.old (Some (record { name = chunk.now; size = size })) → IsOk result }
     {
-        self.add_named(file, name_of(chunk), size)
+        self.add_named(file, &ChunkName::of(chunk), size)
     }
 
     /// The same, of a name as it is kept.
     pub(crate) fn add_named(
         &mut self,
         file: u32,
-        chunk: ChunkName,
+        chunk: &ChunkName,
         size: u64,
     ) -> Result<(), AddError>
         requires file { file < length self.old.files }
-        requires name { IsChunkName chunk.items }
+        requires name { IsChunkName chunk.now }
         requires size { size ≤ GREATEST_SIZE }
-        ensures ok { OnOk result (self.new ≡ with_pair self.old file (record { name = chunk.items; size = size })) }
-        ensures keeps { OnOk result (KeepsSize self.old (Some (record { name = chunk.items; size = size }))) }
-        ensures fault { IfErr result (IsPairFault self.old file (record { name = chunk.items; size = size })) }
+        ensures ok { OnOk result (self.new ≡ with_pair self.old file (record { name = chunk.now; size = size })) }
+        ensures keeps { OnOk result (KeepsSize self.old (Some (record { name = chunk.now; size = size }))) }
+        ensures fault { IfErr result (IsPairFault self.old file (record { name = chunk.now; size = size })) }
         ensures err { OnErr result (self.new ≡ self.old) }
         ensures recipe { IsRecipe self.new }
-        ensures known { list_any (is_pair file (chunk_number self.old.chunks chunk.items)) self.old.pairs ≡ true → KeepsSize self.old (Some (record { name = chunk.items; size = size })) → IsOk result }
+        ensures known { list_any (is_pair file (chunk_number self.old.chunks chunk.now)) self.old.pairs ≡ true → KeepsSize self.old (Some (record { name = chunk.now; size = size })) → IsOk result }
     {
-        match self.chunks.find(&chunk) {
+        match self.chunks.find(chunk) {
             Some((number, first)) => {
                 if first != size {
                     return Err(AddError::Clash { first, now: size });
@@ -258,13 +273,13 @@ impl Recipe {
     }
 
     // Puts a new chunk last, with the file as its first user.
-    fn add_chunk(&mut self, file: u32, name: ChunkName, size: u64) -> Result<(), AddError>
+    fn add_chunk(&mut self, file: u32, name: &ChunkName, size: u64) -> Result<(), AddError>
         requires file { file < length self.old.files }
-        requires name { IsChunkName name.items }
+        requires name { IsChunkName name.now }
         requires size { size ≤ GREATEST_SIZE }
-        requires new { list_any (is_chunk name.items) self.old.chunks ≡ false }
-        ensures ok { OnOk result (self.new ≡ with_pair self.old file (record { name = name.items; size = size })) }
-        ensures fault { IfErr result (IsLimitFault (with_pair self.old file (record { name = name.items; size = size }))) }
+        requires new { list_any (is_chunk name.now) self.old.chunks ≡ false }
+        ensures ok { OnOk result (self.new ≡ with_pair self.old file (record { name = name.now; size = size })) }
+        ensures fault { IfErr result (IsLimitFault (with_pair self.old file (record { name = name.now; size = size }))) }
         ensures err { OnErr result (self.new ≡ self.old) }
         ensures recipe { IsRecipe self.new }
     {
@@ -278,7 +293,7 @@ impl Recipe {
         if self.pairs.len() >= MOST_PAIRS as usize {
             return Err(AddError::TooMany(What::Pairs));
         }
-        let Ok(()) = self.chunks.push(&name, size) else {
+        let Ok(()) = self.chunks.push(name, size) else {
             return Err(AddError::Memory);
         };
         let Ok(()) = self.pairs.push(file, number) else {

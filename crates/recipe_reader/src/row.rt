@@ -5,8 +5,8 @@ ghost use Rattle.recipe_reader.specs.Parts.{NamesChunk};
 ghost use Rattle.recipe_reader.specs.Reading.{HasChunkName, HasBadSize};
 ghost use Rattle.recipe_reader.specs.RecipeRows.{SpellsSize};
 
-use crate::chunks::ChunkName;
-use crate::error::{GREATEST_SIZE, LONGEST_CHUNK_NAME};
+use crate::chunk::ChunkName;
+use crate::error::GREATEST_SIZE;
 use csv::ByteRecord;
 use seed_model::read_number;
 
@@ -18,21 +18,16 @@ pub(crate) fn field(row: &ByteRecord, place: usize) -> &[u8]
     row.get(place).unwrap()
 }
 
-/// The name that a text of pairs of hex digits spells, 1 to 64 bytes; or no bytes where the text is empty.
-pub(crate) fn read_chunk_name(text: &[u8]) -> Option<ChunkName>
-    ensures found { IfSome result (λ name. NamesChunk text.now name.items) }
+/// The name that a text of pairs of hex digits spells, 1 to 64 bytes; or no bytes where the text is empty. It is put into
+/// `room`.
+pub(crate) fn read_chunk_name<'n>(text: &[u8], room: &'n mut ChunkName) -> Option<&'n ChunkName>
+    ensures found { IfSome result (λ name. NamesChunk text.now name.now) }
     ensures none { IfNone result (¬ HasChunkName text.now) }
 {
-    let len = text.len() / 2;
-    if len > LONGEST_CHUNK_NAME {
-        return None;
+    if room.read(text) {
+        return Some(room);
     }
-    let mut name = ChunkName::from([0; LONGEST_CHUNK_NAME]);
-    name.truncate(len);
-    match hex::decode_to_slice(text, name.as_mut_slice()) {
-        Ok(()) => Some(name),
-        Err(_) => None,
-    }
+    None
 }
 
 /// The size that a text spells, in bytes; `name` is the field that names the chunk.

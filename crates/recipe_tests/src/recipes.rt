@@ -233,3 +233,27 @@ fn bounds_chunk_names_and_sizes(rt: HostRuntime) -> Result<(), Fail> {
     assert!(rt; fault_of(rt.alloc(), b"a,01,4294967295\n").is_none());
     Ok(())
 }
+
+/// Whether the chunks of a recipe have names of so many bytes.
+fn has_name_lengths(recipe: &Recipe, lengths: &[usize]) -> bool {
+    for chunk in 0..recipe.chunks() {
+        if lengths.get(chunk as usize) != Some(&recipe.chunk_name(chunk).len()) {
+            return false;
+        }
+    }
+    recipe.chunks() as usize == lengths.len()
+}
+
+#[test]
+fn keeps_short_and_long_chunk_names(rt: HostRuntime) -> Result<(), Fail> {
+    let mut text = Vec::from_slice(rt.alloc(), b"b,01,1\n")?;
+    for bytes in [15u32, 16, 64, 15, 16, 64] {
+        text.extend_from_slice(&row_of_name(rt.alloc(), bytes)?)?;
+    }
+    text.extend_from_slice(b"b,01,1\n")?;
+    let pairs = [(0, 0), (1, 1), (1, 2), (1, 3)];
+    assert!(rt; has_pairs(rt.alloc(), &text, &pairs));
+    let recipe = read_recipe(rt.alloc(), &text)?;
+    assert!(rt; has_name_lengths(&recipe, &[1, 15, 16, 64]));
+    Ok(())
+}

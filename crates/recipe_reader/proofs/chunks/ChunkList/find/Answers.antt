@@ -1,18 +1,8 @@
-use Rattle.std.proofs.Common.{Some, None}
-use Rattle.recipe_reader.specs.Recipes.{is_chunk}
-use Rattle.recipe_reader.proofs.ChunkLemmas.{chunk_found}
-use Rattle.list_facts.proofs.Numbering.{number_of}
+use Rattle.std.proofs.Common.{arith}
+use Rattle.recipe_reader.proofs.ChunkLemmas.{none_longer}
 use Rattle.recipe_reader.proofs.chunks.ChunkList.find.Goals as goal
 
-pub returns-in-Some-clause-number : goal.returns-in-Some-clause-number
-returns-in-Some-clause-number c =
-    rw (← c.self.view_is) (number_of (is_chunk c.args.name.now.items) c.self.inside.chunks.keys (Some c.in-Some.number) (rw (c.new.ensures, c.as_slice.ensures.value) at c.in-Some.ensures.index))
-
-pub returns-in-Some-clause-size : goal.returns-in-Some-clause-size
-returns-in-Some-clause-size c =
-    let number = number_of (is_chunk c.args.name.now.items) c.self.inside.chunks.keys (Some c.in-Some.number) (rw (c.new.ensures, c.as_slice.ensures.value) at c.in-Some.ensures.index) in
-    rw (← c.self.view_is, c.size.ensures) (chunk_found c.args.name.now.items c.self.inside.chunks.keys c.in-Some.number c.in-Some.chunk.now number c.in-Some.ensures.stored)
-
-pub returns-in-None-clause-number : goal.returns-in-None-clause-number
-returns-in-None-clause-number c =
-    rw (← c.self.view_is) (number_of (is_chunk c.args.name.now.items) c.self.inside.chunks.keys None (rw (c.new.ensures, c.as_slice.ensures.value) at c.in-None.ensures.index))
+pub returns-then-len-gt-SHORT-clause-number : goal.returns-then-len-gt-SHORT-clause-number
+returns-then-len-gt-SHORT-clause-number c =
+    let long = c.if-len-gt-SHORT.true in
+    rw (← c.self.view_is, c.if-self.false) (none_longer c.args.name.now c.self.inside.short.keys 15 (c.self.invariant c.if-self.false) (omega (arith, c.len-len.ensures.len, long)))

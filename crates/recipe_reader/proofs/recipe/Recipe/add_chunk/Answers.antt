@@ -7,7 +7,7 @@ use Rattle.recipe_reader.proofs.recipe.Recipe.add_chunk.Goals as goal
 
 pub returns-then-len-clause-fault : goal.returns-then-len-clause-fault
 returns-then-len-clause-fault c =
-    let chunk : NamedChunk = record { name = c.args.name.items; size = c.args.size } in
+    let chunk : NamedChunk = record { name = c.args.name.now; size = c.args.size } in
     let r = view_of c.self.inside in
     let total = c.self.invariant.total in
     let bound = c.self.invariant.recipe.limits.bytes in
@@ -21,7 +21,7 @@ push-requires-2 c =
 
 pub invariant_of-self-2 : goal.invariant_of-self-2
 invariant_of-self-2 c =
-    let chunk : NamedChunk = record { name = c.args.name.items; size = c.args.size } in
+    let chunk : NamedChunk = record { name = c.args.name.now; size = c.args.size } in
     let r = view_of c.self.inside in
     let total = c.self.invariant.total in
     let bound = c.self.invariant.recipe.limits.bytes in
@@ -35,7 +35,7 @@ invariant_of-self-2 c =
 
 pub returns-clause-ok : goal.returns-clause-ok
 returns-clause-ok c =
-    let chunk : NamedChunk = record { name = c.args.name.items; size = c.args.size } in
+    let chunk : NamedChunk = record { name = c.args.name.now; size = c.args.size } in
     let r = view_of c.self.inside in
     let new = rw (← c.self.view_is) at c.requires.new in
     rw (c.in-Ok.ensures.ok, c.in-Ok-push.ensures.ok, c.len-number.ensures, ← c.self.view_is) (sym (with_pair-new r c.args.file chunk c.self.invariant.recipe new))
