@@ -2,6 +2,7 @@
 use Rattle.std.proofs.Common.{◌≡◌, ◌∙◌, ◌+◌, ◌<◌, ◌≤◌, ℕ, Bool, true, false, List, [], ◌++◌, refl, sym, ap, length, take, drop, replicate, arith, append_assoc, length-append, length-drop}
 use Rattle.std.proofs.Math.Seq.{drop-append_seam}
 use Rattle.std.proofs.lemmas.List.{drop-drop, drop-append-le, take-append-drop, append-nil, nil_from_length, length-replicate}
+use Rattle.seed_io.specs.Lines.{Reading, StandsIn}
 use Rattle.seed_io.specs.Shelf.{Told, Gives, GaveMore}
 
 -- a place further on, within what is held
@@ -38,3 +39,7 @@ beyond false map name into at n gives some = record {
   more = let len = length-replicate {A = ℕ} (at + 1) 0 in omega (arith, len);
   told = λ t. cc t;
 }
+
+-- the same bytes are held in the same place
+pub stands_same : (file : List ℕ) (old new : Reading) → new.place ≡ old.place → new.held ≡ old.held → StandsIn file old → StandsIn file new
+stands_same file old new place held s = (s.0, ap (λ (p : ℕ). drop p file) place ∙ (s.1 ∙ ap (λ (h : List ℕ). h ++ s.0) (sym held)))

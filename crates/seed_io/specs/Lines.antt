@@ -66,6 +66,20 @@ line_size (Some Wide) = 0
 line_size (Some Unended) = 0
 line_size None = 0
 
+-- how many bytes behind the place are seen of a line that takes none: more than a line may have, where it is too wide
+abbrev pub bytes_ahead : Option LineText → ℕ
+bytes_ahead (Some (Whole line)) = 0
+bytes_ahead (Some Wide) = longest_line + 1
+bytes_ahead (Some Unended) = 0
+bytes_ahead None = 0
+
+-- a line that the text's end ended
+abbrev pub is_unended : Option LineText → Bool
+is_unended (Some (Whole line)) = false
+is_unended (Some Wide) = false
+is_unended (Some Unended) = true
+is_unended None = false
+
 -- a whole line leaves more to come; what else is answered ends the reading
 abbrev pub is_last : Option LineText → Bool
 is_last (Some (Whole line)) = false
@@ -80,18 +94,21 @@ IsLawful (Some Wide) = Unit {0}
 IsLawful (Some Unended) = Unit {0}
 IsLawful None = Unit {0}
 
--- what a call that answers a line or none does to the reading: the place moves behind the line, within the limit
+-- what a call that answers a line or none does to the reading: the place moves behind the line, and all that is seen of
+-- the line is within the limit
 pub record GivesLine (old new : Reading) (line : Option LineText) : Type 0 where
   pub over : new.over ≡ is_last line
   pub ended : old.over ≡ true → line ≡ None
   pub place : new.place ≡ old.place + line_size line
-  pub within : new.place ≤ new.limit
+  pub within : new.place + bytes_ahead line ≤ new.limit
   pub lawful : IsLawful line
 
--- the line is the next one of these bytes, and the reading stands in them as before
+-- the line is the next one of these bytes, and the reading stands in them as before; where the bytes' end ends the line,
+-- they are all within the limit
 pub record IsNextLine (file : List ℕ) (old new : Reading) (line : Option LineText) : Type 0 where
   pub lines : lines_left file old ≡ listed line ++ lines_left file new
   pub stands : StandsIn file new
+  pub ends : is_unended line ≡ true → length file ≤ new.limit
 
 -- no line ends within the limit: the bytes up to it are taken, and those behind the last line are no line yet
 pub record IsFull (r : Reading) : Type 0 where
@@ -100,7 +117,7 @@ pub record IsFull (r : Reading) : Type 0 where
   pub narrow : length r.held ≤ longest_line
 
 -- what a call for the next line does to the reading, where the name has the bytes that the shelf tells: an error ends
--- the reading, and too many bytes do so only where no line is left within the limit
+-- the reading, and too many bytes do so only where no line is left within the limit, and the reading stays in its place
 pub record NextLine (tells : Bool) (map : Told) (old new : Reading) (answer : Result (Option LineText) LineError) : Type 0 where
   pub name : new.name ≡ old.name
   pub limit : new.limit ≡ old.limit
@@ -108,3 +125,5 @@ pub record NextLine (tells : Bool) (map : Told) (old new : Reading) (answer : Re
   pub told : tells ≡ true → (file : List ℕ) → map old.name ≡ Some file → StandsIn file old → IfOk answer (IsNextLine file old new)
   pub stopped : OnErr answer (new.over ≡ true)
   pub full : IsErrOf answer TooLong → IsFull new
+  pub same_place : IsErrOf answer TooLong → new.place ≡ old.place
+  pub stays : tells ≡ true → (file : List ℕ) → map old.name ≡ Some file → StandsIn file old → IsErrOf answer TooLong → StandsIn file new

@@ -5,7 +5,7 @@ ghost use Rattle.std.specs.Io.BufRead.{Rests};
 ghost use Rattle.fault_count.specs.Counts.{HasCause, HandsOn};
 ghost use Rattle.seed_io.specs.Ahead.{IsLonger};
 ghost use Rattle.seed_io.specs.Answered.{Shows, SamePlace, ReadsOn, EndsWithin, line_error, line_answer, kind_line, lines_behind};
-ghost use Rattle.seed_io.specs.Lines.{StandsIn, GivesLine, NextLine, IsFull, lines_of, listed, line_size};
+ghost use Rattle.seed_io.specs.Lines.{StandsIn, GivesLine, NextLine, IsFull, lines_of, listed, line_size, is_unended};
 ghost use Rattle.seed_io.specs.Shelf.{GaveMore};
 ghost use Rattle.seed_io.specs.contracts.lines.Lines.{the_row};
 
@@ -170,6 +170,7 @@ impl Lines {
         ensures lacks { F.tells shelf.old ≡ true → IsErrOf result LineError.NotThere → F.map shelf.old self.old.name ≡ None }
         ensures long { IsErrOf result LineError.TooLong → GaveMore (F.tells shelf.old) (F.map shelf.old) self.old.name self.old.limit }
         ensures full { IsErrOf result LineError.TooLong → IsFull self.new }
+        ensures stays { F.tells shelf.old ≡ true → (file : List ℕ) → F.map shelf.old self.old.name ≡ Some file → StandsIn file self.old → IsErrOf result LineError.TooLong → StandsIn file self.new }
         ensures cause { HandsOn LineError.Fault (F.faults shelf.old) (F.faults shelf.new) result }
         ensures tells { F.tells shelf.new ≡ F.tells shelf.old }
         ensures map { F.map shelf.new ≡ F.map shelf.old }
@@ -195,6 +196,8 @@ impl Lines {
         ensures gives { GivesLine self.old self.new (kind_line self.new.last result) }
         ensures left { self.new.held ≡ drop (line_size (kind_line self.new.last result)) self.old.held }
         ensures within { line_size (kind_line self.new.last result) ≤ length self.old.held }
+        ensures room { self.old.place + length self.old.held ≤ self.old.limit }
+        ensures ends { is_unended (kind_line self.new.last result) ≡ true → shown ≡ Shown.Open }
         ensures lines { (more : List ℕ) → (shown ≡ Shown.Open → more ≡ []) → lines_of (self.old.held ++ more) ≡ listed (kind_line self.new.last result) ++ lines_behind self.new more }
     {
         match shown {

@@ -1,4 +1,4 @@
-use Rattle.std.proofs.Common.{rules, ◌≡◌, ◌∙◌, ◌+◌, ℕ, List, ◌++◌, Option, Ok, Some, None, false, drop, sym, ap, subst}
+use Rattle.std.proofs.Common.{rules, ◌≡◌, ◌∙◌, ◌+◌, ℕ, List, ◌++◌, Option, Ok, Some, None, false, length, drop, sym, ap, subst, arith, length-drop}
 use Rattle.seed_io.specs.Answered.{kind_line}
 use Rattle.seed_io.specs.Lines.{LineText, NextLine, Reading, Unended, Whole, Wide, line_size}
 use Rattle.seed_io.specs.declared.lines.Shown.TheVariants.{Open}
@@ -35,9 +35,15 @@ settled_next g c line is =
           record {
             lines = rw (going, here, behind) (settled.lines more (λ (e : c.in-Ok.shown ≡ Open). no_more mid.held more (sym at ∙ on.all e)));
             stands = (more, behind);
+            ends = λ e.
+                let all = ap length (on.all (settled.ends e)) in
+                let left = length-drop mid.place file in
+                omega (arith, all, left, settled.room, settled.limit);
           };
       stopped = tt;
       full = λ e. cc e;
+      same_place = λ e. cc e;
+      stays = λ tells file there stands e. cc e;
     })
 
 pub returns-in-None : goal.returns-in-None
