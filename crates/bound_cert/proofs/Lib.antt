@@ -1,5 +1,6 @@
 pub mod Duality
 pub mod FirstLines
+pub mod Headings
 pub mod Heads
 pub mod Joining
 pub mod Judging

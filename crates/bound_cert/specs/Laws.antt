@@ -1,5 +1,5 @@
 -- The laws of certificates.
-use Rattle.std.specs.Prelude.{◌≡◌, ◌↔◌, ℕ, ◌+◌, ◌*◌, ◌≤◌, ◌∷◌, [], Bool, List, length, Option, IsSomeAnd, option_map}
+use Rattle.std.specs.Prelude.{◌≡◌, ◌↔◌, ℕ, ◌+◌, ◌*◌, ◌≤◌, ◌∷◌, [], Bool, List, length, count_by, Option, IsSomeAnd, option_map}
 use Rattle.seed_model.specs.declared.node.Node.{Node}
 use Rattle.seed_model.specs.declared.node.Mix.{Mix}
 use Rattle.seed_model.specs.declared.range.Range.{Range}
@@ -16,12 +16,13 @@ use Rattle.bound_cert.specs.declared.heading.Heading.{Heading}
 use Rattle.bound_cert.specs.declared.heading.Claimed.{Claimed}
 use Rattle.bound_cert.specs.Multipliers.{AreMultipliers, won, lost, turning_point}
 use Rattle.bound_cert.specs.Sets.{set_named, root_of}
-use Rattle.bound_cert.specs.Trees.{Tree, preorder, Stands, Reads}
+use Rattle.bound_cert.specs.Trees.{Tree, preorder, Stands, Reads, is_branch}
 use Rattle.bound_cert.specs.Valid.{IsValid, IsValidText}
 use Rattle.bound_cert.specs.Lines.{Entry, IsLine, line_text}
 use Rattle.bound_cert.specs.Grammar.{IsInGrammar, IsFirstBadLine}
-use Rattle.bound_cert.specs.Documents.{IsDocument, document_text}
-use Rattle.bound_cert.specs.Judgements.{PassesAll, FailsFirst}
+use Rattle.bound_cert.specs.Documents.{IsDocument, document_entries, document_text}
+use Rattle.bound_cert.specs.Judgements.{Told, nothing_told, Tells, PassesAll, FailsFirst}
+use Rattle.bound_cert.specs.declared.place.Place.TheVariants.{Past}
 use Rattle.bound_cert.specs.Within.{RunsOn, FailsWithin}
 
 -- no member costs less than multipliers say, where each touched byte costs q and each migrated one earns p
@@ -100,3 +101,25 @@ OneBadLine = (text : List ℕ) (line other : ℕ) → IsFirstBadLine text line �
 -- no line is longer than a reader of lines takes
 abbrev pub LinesAreShort : Type 0
 LinesAreShort = (e : Entry) → IsLine e → length (line_text e) ≤ 16384
+
+-- what lines have told is what a document says, with as many branchings as it has lines of branchings
+pub record IsToldBy (heading : Heading) (nodes : List NodeLine) (told : Told) : Type 0 where
+  pub range : told.range ≡ heading.range
+  pub pins : told.pins ≡ heading.pins
+  pub answer : told.answer ≡ heading.answer
+  pub plan : told.plan ≡ heading.plan
+  pub bound : told.bound ≡ heading.bound
+  pub branchings : told.branchings ≡ count_by is_branch nodes
+
+-- lines are those of a valid document, and have told what it says
+pub record TellDocument (table : TableValue) (lines : List Entry) (told : Told) : Type 0 where
+  pub heading : Heading
+  pub nodes : List NodeLine
+  pub lines_are : lines ≡ document_entries heading nodes
+  pub document : IsDocument heading nodes
+  pub valid : IsValid table heading nodes
+  pub told_by : IsToldBy heading nodes told
+
+-- lines that tell to the end do
+abbrev pub LinesTellDocuments : Type 0
+LinesTellDocuments = (table : TableValue) (lines : List Entry) (told : Told) → Tells table nothing_told lines told → told.place ≡ Past → TellDocument table lines told

@@ -5,6 +5,7 @@ use Rattle.bound_cert.proofs.SetsNamed.{texts_name}
 use Rattle.bound_cert.proofs.Joining.{valid_passes_all, failure_is_not_valid}
 use Rattle.bound_cert.proofs.OneReading.{bad_is_no_document, one_bad_line, one_document}
 use Rattle.bound_cert.proofs.OneFailure.{one_failure, runs_on_unfailed}
+use Rattle.bound_cert.proofs.Headings.{lines_tell_documents}
 use Rattle.bound_cert.proofs.ShortLines.{lines_are_short}
 use Rattle.bound_cert.proofs.laws.certificate_laws.Goals as goal
 
@@ -25,4 +26,5 @@ returns c = record {
   one_line = one_bad_line;
   one = one_document;
   short = lines_are_short;
+  told = lines_tell_documents;
 }
