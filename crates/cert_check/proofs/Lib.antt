@@ -1,0 +1,16 @@
+pub mod Counts
+pub mod GiveLines
+pub mod Judges
+pub mod Keepings
+pub mod LeafLines
+pub mod Leafing
+pub mod LineTaking
+pub mod Pathing
+pub mod Placings
+pub mod Seen
+pub mod Shown
+pub mod Taking
+pub mod Texts
+pub mod Verdicts
+pub mod Wholes
+pub mod Working
