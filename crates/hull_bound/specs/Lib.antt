@@ -1,0 +1,9 @@
+pub mod Answers
+pub mod Corners
+pub mod Forms
+pub mod Minima
+pub mod Relaxations
+pub mod Slots
+pub mod Solutions
+pub mod Stretches
+pub mod Walks
