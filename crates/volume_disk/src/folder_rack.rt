@@ -59,6 +59,8 @@ impl<'r> Rack for FolderRack<'r> {
 
     ghost faults = { rack_faults };
 
+    ghost calls = { λ s. 0 };
+
     ghost disk = { λ s device. at_rest [] };
 
     ghost moment = { λ s. 0 };

@@ -3,6 +3,7 @@ ghost use Rattle.std.specs.Prelude.{◌≡◌, ◌≤◌, ℕ, ◌+◌, [], true
 ghost use Rattle.std.specs.Io.{ReadsAtMost};
 ghost use Rattle.fault_count.specs.Counts.{HasCause, IsOver};
 ghost use Rattle.volume_disk.specs.Medium.{at_rest, IsAtRest};
+ghost use Rattle.volume_disk.specs.Calls.{calls_after};
 ghost use Rattle.volume_disk.specs.Disk.{SameDisk, SameElsewhere, Crash, Gives, Writes, Cuts, Syncs};
 ghost use Rattle.volume_disk.specs.Time.{Elapses};
 ghost use Rattle.volume_disk.specs.Record.{Step, Recorded, FitsCall, FitsWrite, disk_of, LeftSince, with_step, with_image, blank_record, Crashes};
@@ -176,6 +177,8 @@ impl Rack for MemRack {
 
     ghost faults = { λ r. r.plan.faults };
 
+    ghost calls = { λ r. r.plan.calls };
+
     ghost disk = { λ r. disk_of r.devices };
 
     ghost moment = { λ r. r.devices.moment };
@@ -192,6 +195,7 @@ impl Rack for MemRack {
         requires { device ≤ 5 }
         ensures calls { Calls self.old self.new (FitsCall self.old.devices) with_look (is_err result) }
         ensures cause { HasCause Fault self.old.plan.faults self.new.plan.faults result }
+        ensures counted { self.new.plan.calls ≡ calls_after self.old.plan.faults self.old.plan.calls }
         ensures value { IfOk result (λ n. n ≡ length (disk_of self.old.devices device).image) }
         ensures same { SameDisk (disk_of self.old.devices) (disk_of self.new.devices) }
         ensures time { Elapses self.old.devices.moment self.new.devices.moment (LeftSince self.old.devices) (LeftSince self.new.devices) (Crash (disk_of self.new.devices)) }
@@ -206,6 +210,7 @@ impl Rack for MemRack {
         ensures calls { Calls self.old self.new (FitsCall self.old.devices) with_look (is_err result) }
         ensures bound { ReadsAtMost result into.new }
         ensures cause { HasCause Fault self.old.plan.faults self.new.plan.faults result }
+        ensures counted { self.new.plan.calls ≡ calls_after self.old.plan.faults self.old.plan.calls }
         ensures bytes { IfOk result (Gives (disk_of self.old.devices device).image at into.new) }
         ensures same { SameDisk (disk_of self.old.devices) (disk_of self.new.devices) }
         ensures time { Elapses self.old.devices.moment self.new.devices.moment (LeftSince self.old.devices) (LeftSince self.new.devices) (Crash (disk_of self.new.devices)) }
@@ -219,6 +224,7 @@ impl Rack for MemRack {
         requires { device ≤ 5 }
         ensures calls { Calls self.old self.new (FitsWrite self.old.devices at (length bytes.now)) (λ r. with_step r (Writing device at bytes.now) (length bytes.now)) (is_err result) }
         ensures cause { HasCause Fault self.old.plan.faults self.new.plan.faults result }
+        ensures counted { self.new.plan.calls ≡ calls_after self.old.plan.faults self.old.plan.calls }
         ensures disk { Writes device at bytes.now (disk_of self.old.devices) (disk_of self.new.devices) result }
         ensures time { Elapses self.old.devices.moment self.new.devices.moment (LeftSince self.old.devices) (LeftSince self.new.devices) (Crash (disk_of self.new.devices)) }
         ensures over { IsOver self.old.plan.faults → self.new ≡ self.old }
@@ -230,6 +236,7 @@ impl Rack for MemRack {
         requires { device ≤ 5 }
         ensures calls { Calls self.old self.new (FitsCall self.old.devices) (λ r. with_step r (Cutting device len) 0) (is_err result) }
         ensures cause { HasCause Fault self.old.plan.faults self.new.plan.faults result }
+        ensures counted { self.new.plan.calls ≡ calls_after self.old.plan.faults self.old.plan.calls }
         ensures disk { Cuts device len (disk_of self.old.devices) (disk_of self.new.devices) result }
         ensures time { Elapses self.old.devices.moment self.new.devices.moment (LeftSince self.old.devices) (LeftSince self.new.devices) (Crash (disk_of self.new.devices)) }
         ensures over { IsOver self.old.plan.faults → self.new ≡ self.old }
@@ -241,6 +248,7 @@ impl Rack for MemRack {
         requires { device ≤ 5 }
         ensures calls { Calls self.old self.new (FitsCall self.old.devices) (λ r. if is_err result then with_look r else with_step r (Syncing device) 0) (is_err result) }
         ensures cause { HasCause Fault self.old.plan.faults self.new.plan.faults result }
+        ensures counted { self.new.plan.calls ≡ calls_after self.old.plan.faults self.old.plan.calls }
         ensures disk { Syncs device (disk_of self.old.devices) (disk_of self.new.devices) result }
         ensures time { Elapses self.old.devices.moment self.new.devices.moment (LeftSince self.old.devices) (LeftSince self.new.devices) (Crash (disk_of self.new.devices)) }
         ensures over { IsOver self.old.plan.faults → self.new ≡ self.old }

@@ -2,6 +2,7 @@
 ghost use Rattle.std.specs.Prelude.{◌≡◌, ◌≤◌, Bool, ℕ, true, length, IfOk};
 ghost use Rattle.std.specs.Io.{ReadsAtMost};
 ghost use Rattle.fault_count.specs.Counts.{HasCause, IsOver};
+ghost use Rattle.volume_disk.specs.Calls.{calls_after};
 ghost use Rattle.volume_disk.specs.Disk.{Disk, Images, Crash, SameDisk, Gives, Writes, Cuts, Syncs};
 ghost use Rattle.volume_disk.specs.Medium.{MayLeave};
 ghost use Rattle.volume_disk.specs.Time.{Elapses};
@@ -23,6 +24,10 @@ pub trait Rack {
     /// How many calls have failed. It stands still at 2^64 - 1.
     ghost faults: { Self → ℕ };
 
+    /// How many calls were made, those that failed too. It stands still at 2^64 - 1, and where the faults stand at
+    /// their last value.
+    ghost calls: { Self → ℕ };
+
     /// The devices: what a read gives, and what a crash now may leave.
     ghost disk: { Self → Disk };
 
@@ -37,6 +42,7 @@ pub trait Rack {
         requires { device ≤ 5 }
         ensures cause { HasCause Fault (faults self.old) (faults self.new) result }
         ensures honest { honest self.new ≡ honest self.old }
+        ensures counted { honest self.old ≡ true → calls self.new ≡ calls_after (faults self.old) (calls self.old) }
         ensures value { honest self.old ≡ true → IfOk result (λ n. n ≡ length (disk self.old device).image) }
         ensures same { honest self.old ≡ true → SameDisk (disk self.old) (disk self.new) }
         ensures time { honest self.old ≡ true → Elapses (moment self.old) (moment self.new) (left_since self.old) (left_since self.new) (Crash (disk self.new)) }
@@ -49,6 +55,7 @@ pub trait Rack {
         ensures bound { ReadsAtMost result into.new }
         ensures cause { HasCause Fault (faults self.old) (faults self.new) result }
         ensures honest { honest self.new ≡ honest self.old }
+        ensures counted { honest self.old ≡ true → calls self.new ≡ calls_after (faults self.old) (calls self.old) }
         ensures bytes { honest self.old ≡ true → IfOk result (Gives (disk self.old device).image at into.new) }
         ensures same { honest self.old ≡ true → SameDisk (disk self.old) (disk self.new) }
         ensures time { honest self.old ≡ true → Elapses (moment self.old) (moment self.new) (left_since self.old) (left_since self.new) (Crash (disk self.new)) }
@@ -60,6 +67,7 @@ pub trait Rack {
         requires { device ≤ 5 }
         ensures cause { HasCause Fault (faults self.old) (faults self.new) result }
         ensures honest { honest self.new ≡ honest self.old }
+        ensures counted { honest self.old ≡ true → calls self.new ≡ calls_after (faults self.old) (calls self.old) }
         ensures disk { honest self.old ≡ true → Writes device at bytes.now (disk self.old) (disk self.new) result }
         ensures time { honest self.old ≡ true → Elapses (moment self.old) (moment self.new) (left_since self.old) (left_since self.new) (Crash (disk self.new)) }
         ensures over { IsOver (faults self.old) → self.new ≡ self.old };
@@ -69,6 +77,7 @@ pub trait Rack {
         requires { device ≤ 5 }
         ensures cause { HasCause Fault (faults self.old) (faults self.new) result }
         ensures honest { honest self.new ≡ honest self.old }
+        ensures counted { honest self.old ≡ true → calls self.new ≡ calls_after (faults self.old) (calls self.old) }
         ensures disk { honest self.old ≡ true → Cuts device len (disk self.old) (disk self.new) result }
         ensures time { honest self.old ≡ true → Elapses (moment self.old) (moment self.new) (left_since self.old) (left_since self.new) (Crash (disk self.new)) }
         ensures over { IsOver (faults self.old) → self.new ≡ self.old };
@@ -79,6 +88,7 @@ pub trait Rack {
         requires { device ≤ 5 }
         ensures cause { HasCause Fault (faults self.old) (faults self.new) result }
         ensures honest { honest self.new ≡ honest self.old }
+        ensures counted { honest self.old ≡ true → calls self.new ≡ calls_after (faults self.old) (calls self.old) }
         ensures disk { honest self.old ≡ true → Syncs device (disk self.old) (disk self.new) result }
         ensures time { honest self.old ≡ true → Elapses (moment self.old) (moment self.new) (left_since self.old) (left_since self.new) (Crash (disk self.new)) }
         ensures over { IsOver (faults self.old) → self.new ≡ self.old };
