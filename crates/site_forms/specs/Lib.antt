@@ -1,4 +1,5 @@
 pub mod Examples
+pub mod Gates
 pub mod Halves
 pub mod JournalRecords
 pub mod Logs
