@@ -5,6 +5,7 @@ pub mod Blanks
 pub mod Bodies
 pub mod HalfBlocks
 pub mod HalfFound
+pub mod NewRecords
 pub mod Opened
 pub mod PlaceHalves
 pub mod Quiets

@@ -6,10 +6,10 @@ use Rattle.std.proofs.lemmas.List.{drop-drop, get_or-drop, length-take}
 use Rattle.site_forms.specs.Logs.{Parsed, parse_from, body_length, is_block, more}
 use Rattle.site_forms.specs.Logs.Parsed.{Good, Bad}
 use Rattle.site_forms.proofs.Logs.{not_blank}
-use Rattle.chunk_log.specs.declared.gates.Gate.{Gate}
-use Rattle.chunk_log.specs.declared.gates.Gate.TheVariants.{Shut, Broken, Open}
+use Rattle.site_forms.specs.declared.gates.Gate.{Gate}
+use Rattle.site_forms.specs.declared.gates.Gate.TheVariants.{Shut, Broken, Open}
 use Rattle.chunk_log.specs.declared.opening.Found.TheVariants.{End, Bad as BadGate}
-use Rattle.chunk_log.specs.Gates.{fits_block, gate_in}
+use Rattle.site_forms.specs.Gates.{fits_block, gate_in}
 use Rattle.chunk_log.specs.Opening.{Finds}
 
 -- bodies in front of what is parsed

@@ -10,10 +10,10 @@ use Rattle.std.proofs.Math.Seq.{take-suc}
 use Rattle.site_forms.specs.Logs.{parse, log_size, IsBody}
 use Rattle.site_forms.specs.Logs.Parsed.{Good}
 use Rattle.site_forms.proofs.Walks.{ends, bodies_in, within}
-use Rattle.chunk_log.specs.declared.gates.Gate.{Gate}
-use Rattle.chunk_log.specs.declared.gates.Gate.TheVariants.{Shut, Broken, Open}
+use Rattle.site_forms.specs.declared.gates.Gate.{Gate}
+use Rattle.site_forms.specs.declared.gates.Gate.TheVariants.{Shut, Broken, Open}
 use Rattle.chunk_log.specs.LogValues.{LogValue}
-use Rattle.chunk_log.specs.Gates.{fits_block, gate_in, IsGate}
+use Rattle.site_forms.specs.Gates.{fits_block, gate_in, IsGate}
 use Rattle.chunk_log.specs.Walking.{Walks, HasBlock, FindsBlock, WalksTo, placed, place_behind}
 
 -- a block stands before the end of the log

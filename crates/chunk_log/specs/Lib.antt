@@ -1,7 +1,6 @@
 pub mod Appending
 pub mod Bodies
 pub mod Frames
-pub mod Gates
 pub mod HalfWriting
 pub mod LogValues
 pub mod Opening

@@ -28,13 +28,24 @@ SameOutside place d e = (other : ℕ) → other ≢ place → other ≢ place + 
 abbrev pub images_of : Disk → Images
 images_of d k = (d k).image
 
+-- both halves of a place are at rest as they read; a crash at any moment leaves what it might have left before
+pub record SyncsBoth {D E : Type 0} (moment : D → ℕ) (left_since : D → ℕ → Images → Type 0) (old new : D) (d e : Disk) (place : ℕ) (result : Result (Unit {0}) E) : Type 0 where
+  pub others : SameOutside place d e
+  pub first : OnOk result (e place ≡ at_rest (d place).image)
+  pub second : OnOk result (e (place + 3) ≡ at_rest (d (place + 3)).image)
+  pub moments : Passes moment left_since old new (Crash d)
+
+-- the generations of the two halves of a place
+abbrev pub ReadsBoth : Disk → ℕ → Generations → Type 0
+ReadsBoth d place both = (both.first ≡ generation (d place).image) × (both.second ≡ generation (d (place + 3)).image)
+
 -- both halves of a place are at rest as they read, with these generations; a crash at any moment leaves what it might
 -- have left before
 pub record SettlesBoth {D E : Type 0} (moment : D → ℕ) (left_since : D → ℕ → Images → Type 0) (old new : D) (d e : Disk) (place : ℕ) (result : Result Generations E) : Type 0 where
   pub others : SameOutside place d e
   pub first : OnOk result (e place ≡ at_rest (d place).image)
   pub second : OnOk result (e (place + 3) ≡ at_rest (d (place + 3)).image)
-  pub numbers : IfOk result (λ both. (both.first ≡ generation (d place).image) × (both.second ≡ generation (d (place + 3)).image))
+  pub numbers : IfOk result (ReadsBoth d place)
   pub moments : Passes moment left_since old new (Crash d)
 
 -- the image of a half

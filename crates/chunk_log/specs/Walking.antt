@@ -3,8 +3,8 @@ use Rattle.std.specs.Prelude.{◌≡◌, ℕ, ◌+◌, ◌^◌, ◌<◌, ◌≤�
 use Rattle.std.specs.Int.{w32, from_be_bytes}
 use Rattle.chunk_log.specs.declared.errors.LogError.{LogError}
 use Rattle.chunk_log.specs.declared.errors.LogError.TheVariants.{RackFault, Damage}
-use Rattle.chunk_log.specs.declared.gates.Gate.{Gate}
-use Rattle.chunk_log.specs.declared.gates.Gate.TheVariants.{Shut, Broken, Open}
+use Rattle.site_forms.specs.declared.gates.Gate.{Gate}
+use Rattle.site_forms.specs.declared.gates.Gate.TheVariants.{Shut, Broken, Open}
 use Rattle.chunk_log.specs.declared.place.Place.{Place}
 use Rattle.chunk_log.specs.LogValues.{LogValue}
 

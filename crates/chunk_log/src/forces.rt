@@ -4,7 +4,7 @@ ghost use Rattle.fault_count.specs.Counts.{HasCause, HandsOn};
 ghost use Rattle.volume_disk.specs.declared.rack.RackError.TheVariants.{Fault};
 ghost use Rattle.site_forms.specs.Halves.{generation};
 ghost use Rattle.chunk_log.specs.declared.errors.LogError.TheVariants.{RackFault};
-ghost use Rattle.chunk_log.specs.PlaceHalves.{chosen, SettlesBoth, FindsHalf, NamesHalf, AnswersPlace, OpensPlace};
+ghost use Rattle.chunk_log.specs.PlaceHalves.{chosen, SyncsBoth, ReadsBoth, SettlesBoth, FindsHalf, NamesHalf, AnswersPlace, OpensPlace};
 ghost use Rattle.chunk_log.specs.Quiet.{Quiet};
 
 use crate::errors::LogError;
@@ -19,11 +19,13 @@ pub(crate) struct Generations {
 }
 
 /// The device of the half that is in force at a place, 0 to 2, and its generation, 0 where neither half has one. Both
-/// halves are synced first. Damage names the second half where both have the same generation.
+/// halves are synced first. Damage names the second half where both have the same generation. Makes four calls of the
+/// rack at most.
 pub fn in_force<R: Rack>(rack: &mut R, first: u8) -> Result<(u8, u64), LogError>
     requires { first ≤ 2 }
     ensures cause { HandsOn RackFault (R.faults rack.old) (R.faults rack.new) result }
     ensures honest { R.honest rack.new ≡ R.honest rack.old }
+    ensures calls { R.honest rack.old ≡ true → R.calls rack.new ≤ R.calls rack.old + 4 }
     ensures named { NamesHalf first result }
     ensures found { R.honest rack.old ≡ true → FindsHalf R.moment R.left_since rack.old rack.new (R.disk rack.old) (R.disk rack.new) first result }
 {
@@ -76,10 +78,34 @@ fn read_both<R: Rack>(rack: &mut R, first: u8) -> Result<Generations, RackError>
     requires { first ≤ 2 }
     ensures cause { HandsOn Fault (R.faults rack.old) (R.faults rack.new) result }
     ensures honest { R.honest rack.new ≡ R.honest rack.old }
+    ensures calls { R.honest rack.old ≡ true → R.calls rack.new ≤ R.calls rack.old + 4 }
     ensures settled { R.honest rack.old ≡ true → SettlesBoth R.moment R.left_since rack.old rack.new (R.disk rack.old) (R.disk rack.new) first result }
 {
+    sync_both(rack, first)?;
+    read_generations(rack, first)
+}
+
+// Syncs both halves of a place.
+fn sync_both<R: Rack>(rack: &mut R, first: u8) -> Result<(), RackError>
+    requires { first ≤ 2 }
+    ensures cause { HasCause Fault (R.faults rack.old) (R.faults rack.new) result }
+    ensures honest { R.honest rack.new ≡ R.honest rack.old }
+    ensures calls { R.honest rack.old ≡ true → R.calls rack.new ≤ R.calls rack.old + 2 }
+    ensures synced { R.honest rack.old ≡ true → SyncsBoth R.moment R.left_since rack.old rack.new (R.disk rack.old) (R.disk rack.new) first result }
+{
     rack.sync(first)?;
-    rack.sync(first + 3)?;
+    rack.sync(first + 3)
+}
+
+// The generations of both halves of a place.
+fn read_generations<R: Rack>(rack: &mut R, first: u8) -> Result<Generations, RackError>
+    requires { first ≤ 2 }
+    ensures cause { HandsOn Fault (R.faults rack.old) (R.faults rack.new) result }
+    ensures honest { R.honest rack.new ≡ R.honest rack.old }
+    ensures calls { R.honest rack.old ≡ true → R.calls rack.new ≤ R.calls rack.old + 2 }
+    ensures quiet { R.honest rack.old ≡ true → Quiet R.moment R.left_since rack.old rack.new (R.disk rack.old) (R.disk rack.new) }
+    ensures numbers { R.honest rack.old ≡ true → IfOk result (ReadsBoth (R.disk rack.old) first) }
+{
     let one = generation_of(rack, first)?;
     let two = generation_of(rack, first + 3)?;
     Ok(Generations {
@@ -93,6 +119,7 @@ fn generation_of<R: Rack>(rack: &mut R, device: u8) -> Result<Option<u64>, RackE
     requires { device ≤ 5 }
     ensures cause { HasCause Fault (R.faults rack.old) (R.faults rack.new) result }
     ensures honest { R.honest rack.new ≡ R.honest rack.old }
+    ensures calls { R.honest rack.old ≡ true → R.calls rack.new ≤ R.calls rack.old + 1 }
     ensures quiet { R.honest rack.old ≡ true → Quiet R.moment R.left_since rack.old rack.new (R.disk rack.old) (R.disk rack.new) }
     ensures number { R.honest rack.old ≡ true → IfOk result (λ g. g ≡ generation (R.disk rack.old device).image) }
 {

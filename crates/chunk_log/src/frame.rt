@@ -4,11 +4,9 @@ ghost use Rattle.std.specs.Int.{w32, to_be_bytes};
 ghost use Rattle.site_forms.specs.Logs.{framed};
 
 use seed_model::NoMemory;
+use site_forms::LONGEST_BODY;
 use std::alloc::Global;
 use std::marker::Model;
-
-/// The longest body of a log, in bytes.
-pub const LONGEST_BODY: u32 = 16_777_216;
 
 /// Room for one body with the gates around it, which are written together.
 #[derive(Drop)]

@@ -9,14 +9,15 @@ ghost use Rattle.chunk_log.specs.Quiet.{Quiet};
 ghost use Rattle.chunk_log.specs.Walking.{Walks, FindsBlock, WalksTo, placed, place_behind, ReadsBytes, NamesPlace};
 ghost use Rattle.chunk_log.specs.declared.errors.AppendError.TheVariants.{RackFault as AppendFault};
 ghost use Rattle.chunk_log.specs.declared.errors.LogError.TheVariants.{RackFault, Damage};
-ghost use Rattle.chunk_log.specs.Gates.{IsGate};
+ghost use Rattle.site_forms.specs.Gates.{IsGate};
 
 use crate::errors::{AppendError, LogError};
 use crate::frame::Frame;
-use crate::gates::{Gate, look};
+use crate::gates::look;
 use crate::opening::{Found, settle};
 use crate::place::Place;
 use crate::writing::append_at;
+use site_forms::Gate;
 use std::marker::Model;
 use volume_disk::{Rack, RackError};
 
@@ -80,11 +81,12 @@ impl Log {
     }
 
     /// Adds the body of a frame, and answers its place: the frame behind the gate at the end and a sync, then the open
-    /// gate and a sync. After a fault the log is spent. Takes no memory.
+    /// gate and a sync, which are four calls of the rack at most. After a fault the log is spent. Takes no memory.
     pub fn append<R: Rack>(&mut self, rack: &mut R, frame: &Frame) -> Result<u64, AppendError>
         requires { 1 ≤ length frame.now.body }
         ensures cause { HandsOn AppendFault (R.faults rack.old) (R.faults rack.new) result }
         ensures honest { R.honest rack.new ≡ R.honest rack.old }
+        ensures calls { R.honest rack.old ≡ true → R.calls rack.new ≤ R.calls rack.old + 4 }
         ensures log { Appends self.old self.new (length frame.now.body) result }
         ensures untouched { IsUntouched rack.old rack.new result }
         ensures appended { R.honest rack.old ≡ true → Appended R.disk R.moment R.left_since rack.old rack.new (R.disk rack.old) (R.disk rack.new) self.old self.new frame.now.body result }
@@ -138,11 +140,12 @@ impl Log {
         self.device
     }
 
-    /// The place of the body behind a gate; none at the end of the log.
+    /// The place of the body behind a gate; none at the end of the log. Makes one call of the rack at most.
     pub fn walk<R: Rack>(&self, rack: &mut R, at: u64) -> Result<Option<Place>, LogError>
         requires { at ≤ self.now.end }
         ensures cause { HandsOn RackFault (R.faults rack.old) (R.faults rack.new) result }
         ensures honest { R.honest rack.new ≡ R.honest rack.old }
+        ensures calls { R.honest rack.old ≡ true → R.calls rack.new ≤ R.calls rack.old + 1 }
         ensures walks { Walks self.now at result }
         ensures block { R.honest rack.old ≡ true → FindsBlock (R.disk rack.old self.now.device).image at self.now.end result }
         ensures quiet { R.honest rack.old ≡ true → Quiet R.moment R.left_since rack.old rack.new (R.disk rack.old) (R.disk rack.new) }
@@ -187,11 +190,12 @@ impl Log {
         }
     }
 
-    /// Copies bytes of the log from a place on, before its end.
+    /// Copies bytes of the log from a place on, before its end. Makes one call of the rack at most.
     pub fn read_body<R: Rack>(&self, rack: &mut R, at: u64, into: &mut [u8]) -> Result<(), LogError>
         requires { at + length into.old ≤ self.now.end }
         ensures cause { HandsOn RackFault (R.faults rack.old) (R.faults rack.new) result }
         ensures honest { R.honest rack.new ≡ R.honest rack.old }
+        ensures calls { R.honest rack.old ≡ true → R.calls rack.new ≤ R.calls rack.old + 1 }
         ensures place { NamesPlace self.now.device at result }
         ensures quiet { R.honest rack.old ≡ true → Quiet R.moment R.left_since rack.old rack.new (R.disk rack.old) (R.disk rack.new) }
         ensures bytes { R.honest rack.old ≡ true → ReadsBytes (R.disk rack.old self.now.device).image at into.new result }

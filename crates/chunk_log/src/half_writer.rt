@@ -36,12 +36,13 @@ impl Model for HalfWriter {
 
 impl HalfWriter {
     /// Begins a half on a device, which may grow to `limit` bytes: retires what stands there, and gives it a closed
-    /// gate. Takes no memory.
+    /// gate. Makes eight calls of the rack at most. Takes no memory.
     pub fn start<R: Rack>(rack: &mut R, device: u8, limit: u64) -> Result<HalfWriter, RackError>
         requires device { device ≤ 5 }
         requires limit { limit ≤ 2 ^ 40 }
         ensures cause { HandsOn Fault (R.faults rack.old) (R.faults rack.new) result }
         ensures honest { R.honest rack.new ≡ R.honest rack.old }
+        ensures calls { R.honest rack.old ≡ true → R.calls rack.new ≤ R.calls rack.old + 8 }
         ensures writer { IfOk result (λ w. w ≡ record { device = device; limit = limit; end = 0; spent = false }) }
         ensures begins { R.honest rack.old ≡ true → BeginsHalf R.moment R.left_since rack.old rack.new (R.disk rack.old) (R.disk rack.new) device result }
     {
@@ -55,12 +56,13 @@ impl HalfWriter {
         })
     }
 
-    /// Writes the body of a frame behind the others, with an open gate before it where it is not the first. After a
-    /// fault the writer is spent. Takes no memory.
+    /// Writes the body of a frame behind the others, with an open gate before it where it is not the first: one call of
+    /// the rack. After a fault the writer is spent. Takes no memory.
     pub fn add<R: Rack>(&mut self, rack: &mut R, frame: &Frame) -> Result<(), AppendError>
         requires { 1 ≤ length frame.now.body }
         ensures cause { HandsOn RackFault (R.faults rack.old) (R.faults rack.new) result }
         ensures honest { R.honest rack.new ≡ R.honest rack.old }
+        ensures calls { R.honest rack.old ≡ true → R.calls rack.new ≤ R.calls rack.old + 1 }
         ensures writer { Adds self.old self.new (length frame.now.body) result }
         ensures untouched { LeavesAlone rack.old rack.new result }
         ensures adds { R.honest rack.old ≡ true → AddsBody R.moment R.left_since rack.old rack.new (R.disk rack.old) (R.disk rack.new) self.old self.new frame.now.body result }
@@ -98,11 +100,12 @@ impl HalfWriter {
     }
 
     /// Finishes the half: writes the gate behind the last body, makes all that last, and then opens the first gate and
-    /// makes that last. After a fault the place is to be opened again. Takes no memory.
+    /// makes that last: four calls of the rack at most. After a fault the place is to be opened again. Takes no memory.
     pub fn finish<R: Rack>(self, rack: &mut R) -> Result<Log, RackError>
         requires { 1 ≤ self.end }
         ensures cause { HandsOn Fault (R.faults rack.old) (R.faults rack.new) result }
         ensures honest { R.honest rack.new ≡ R.honest rack.old }
+        ensures calls { R.honest rack.old ≡ true → R.calls rack.new ≤ R.calls rack.old + 4 }
         ensures log { IfOk result (λ log. log ≡ self) }
         ensures finishes { R.honest rack.old ≡ true → FinishesHalf R.disk R.moment R.left_since rack.old rack.new (R.disk rack.old) (R.disk rack.new) self result }
     {
@@ -118,6 +121,7 @@ fn put_block<R: Rack>(rack: &mut R, device: u8, end: u64, frame: &Frame) -> Resu
     requires set { 1 ≤ length frame.now.body }
     ensures cause { HasCause Fault (R.faults rack.old) (R.faults rack.new) result }
     ensures honest { R.honest rack.new ≡ R.honest rack.old }
+    ensures calls { R.honest rack.old ≡ true → R.calls rack.new ≤ R.calls rack.old + 1 }
     ensures puts { R.honest rack.old ≡ true → PutsBlock R.moment R.left_since rack.old rack.new (R.disk rack.old) (R.disk rack.new) device end frame.now.body result }
 {
     if end == 0 {

@@ -12,14 +12,17 @@ pub mod laws;
 mod opening;
 pub mod place;
 pub mod retiring;
+pub mod switching;
 mod writing;
 
 pub use errors::{AppendError, LogError};
 pub use example::three_appends;
 pub use forces::{in_force, open_place};
-pub use frame::{Frame, LONGEST_BODY};
+pub use frame::Frame;
 pub use gated_log::Log;
 pub use half_writer::HalfWriter;
 pub use laws::place_laws;
 pub use place::Place;
 pub use retiring::retire;
+pub use site_forms::LONGEST_BODY;
+pub use switching::switch_halves;

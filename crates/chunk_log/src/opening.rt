@@ -6,8 +6,9 @@ ghost use Rattle.volume_disk.specs.declared.rack.RackError.TheVariants.{Fault};
 ghost use Rattle.chunk_log.specs.Opening.{EndBelow, Finds, Settled};
 ghost use Rattle.chunk_log.specs.Quiet.{Quiet};
 
-use crate::gates::{Gate, look};
+use crate::gates::look;
 use crate::writing::put_down;
+use site_forms::Gate;
 use volume_disk::{Rack, RackError};
 
 /// Where a walk over the gates of a device ended.

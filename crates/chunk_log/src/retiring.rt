@@ -1,5 +1,5 @@
 // The half of a place that is not in force.
-ghost use Rattle.std.specs.Prelude.{◌≡◌, ◌≤◌, true};
+ghost use Rattle.std.specs.Prelude.{◌≡◌, ◌+◌, ◌≤◌, true};
 ghost use Rattle.fault_count.specs.Counts.{HasCause, HandsOn};
 ghost use Rattle.volume_disk.specs.declared.rack.RackError.TheVariants.{Fault};
 ghost use Rattle.chunk_log.specs.Retiring.{Retired};
@@ -9,11 +9,12 @@ use crate::writing::put_down;
 use volume_disk::{Rack, RackError};
 
 /// Retires the half of a place that is not in force: closes its first gate, makes that last, and drops what stands
-/// behind it. A blank device is left as it is. Takes no memory.
+/// behind it. A blank device is left as it is. Makes six calls of the rack at most. Takes no memory.
 pub fn retire<R: Rack>(rack: &mut R, device: u8) -> Result<(), RackError>
     requires { device ≤ 5 }
     ensures cause { HandsOn Fault (R.faults rack.old) (R.faults rack.new) result }
     ensures honest { R.honest rack.new ≡ R.honest rack.old }
+    ensures calls { R.honest rack.old ≡ true → R.calls rack.new ≤ R.calls rack.old + 6 }
     ensures retired { R.honest rack.old ≡ true → Retired R.moment R.left_since rack.old rack.new (R.disk rack.old) (R.disk rack.new) device result }
 {
     empty_device(rack, device)
@@ -24,6 +25,7 @@ pub(crate) fn empty_device<R: Rack>(rack: &mut R, device: u8) -> Result<(), Rack
     requires { device ≤ 5 }
     ensures cause { HandsOn Fault (R.faults rack.old) (R.faults rack.new) result }
     ensures honest { R.honest rack.new ≡ R.honest rack.old }
+    ensures calls { R.honest rack.old ≡ true → R.calls rack.new ≤ R.calls rack.old + 6 }
     ensures empties { R.honest rack.old ≡ true → Empties R.moment R.left_since rack.old rack.new (R.disk rack.old) (R.disk rack.new) device result }
 {
     let size = rack.size(device)?;
@@ -39,6 +41,7 @@ fn shut_gate<R: Rack>(rack: &mut R, device: u8) -> Result<(), RackError>
     requires { device ≤ 5 }
     ensures cause { HandsOn Fault (R.faults rack.old) (R.faults rack.new) result }
     ensures honest { R.honest rack.new ≡ R.honest rack.old }
+    ensures calls { R.honest rack.old ≡ true → R.calls rack.new ≤ R.calls rack.old + 3 }
     ensures shuts { R.honest rack.old ≡ true → ShutsGate R.moment R.left_since rack.old rack.new (R.disk rack.old) (R.disk rack.new) device result }
 {
     let mut gate = [0];
@@ -54,6 +57,7 @@ fn cut_to_gate<R: Rack>(rack: &mut R, device: u8) -> Result<(), RackError>
     requires { device ≤ 5 }
     ensures cause { HasCause Fault (R.faults rack.old) (R.faults rack.new) result }
     ensures honest { R.honest rack.new ≡ R.honest rack.old }
+    ensures calls { R.honest rack.old ≡ true → R.calls rack.new ≤ R.calls rack.old + 2 }
     ensures cuts { R.honest rack.old ≡ true → CutsToGate R.moment R.left_since rack.old rack.new (R.disk rack.old) (R.disk rack.new) device result }
 {
     rack.cut(device, 1)?;

@@ -1,7 +1,7 @@
 use Rattle.std.proofs.Common.{◌≡◌, ◌+◌, ℕ, refl, sym, ◌∙◌, ap, subst, arith}
 use Rattle.volume_disk.specs.Medium.{Medium}
-use Rattle.chunk_log.specs.declared.gates.Gate.TheVariants.{Shut, Broken, Open}
-use Rattle.chunk_log.specs.Gates.{IsGate}
+use Rattle.site_forms.specs.declared.gates.Gate.TheVariants.{Shut, Broken, Open}
+use Rattle.site_forms.specs.Gates.{IsGate}
 use Rattle.chunk_log.proofs.Quiets.{quiet_begins, quiet_then}
 use Rattle.chunk_log.proofs.Reaching.{Reaches, at_start, shut_at, broken_at, open_at, seen_from}
 use Rattle.chunk_log.proofs.opening.find_end.Goals as goal

@@ -3,8 +3,8 @@ use Rattle.std.specs.Prelude.{Result, Option}
 use Rattle.site_forms.proofs.Walks.{ends}
 use Rattle.chunk_log.specs.declared.errors.LogError.{LogError}
 use Rattle.chunk_log.specs.declared.place.Place.{Place}
-use Rattle.chunk_log.specs.declared.gates.Gate.TheVariants.{Open}
-use Rattle.chunk_log.specs.Gates.{gate_in}
+use Rattle.site_forms.specs.declared.gates.Gate.TheVariants.{Open}
+use Rattle.site_forms.specs.Gates.{gate_in}
 use Rattle.chunk_log.specs.LogValues.{LogValue}
 use Rattle.chunk_log.specs.Walking.{FindsBlock, WalksTo, place_behind}
 use Rattle.chunk_log.proofs.Walked.{before_end, gate_of_body, finds_block, walks_to}
