@@ -1,12 +1,12 @@
 // The two halves of a place on a rack in memory.
 ghost use Rattle.std.specs.Prelude.{◌≤◌, length, IfOk};
 
-use chunk_log::{AppendError, Frame, HalfWriter, LogError, in_force, open_place, retire};
+use chunk_log::{AppendError, Frame, HalfWriter, LogError, in_force, open_place, switch_halves};
 use std::test::Fail;
 use volume_disk::{MemRack, Pick, Rack};
 
 /// A log of the body `X`, without a generation.
-const OLD: &[u8] = b"\x01\0\0\0\x01X\0";
+pub(crate) const OLD: &[u8] = b"\x01\0\0\0\x01X\0";
 
 /// A half of generation 1 with the body `Y`.
 const FIRST: &[u8] = b"\x01\0\0\0\x09\x20\0\0\0\0\0\0\0\x01\x01\0\0\0\x01Y\0";
@@ -15,7 +15,7 @@ const FIRST: &[u8] = b"\x01\0\0\0\x09\x20\0\0\0\0\0\0\0\x01\x01\0\0\0\x01Y\0";
 const SECOND: &[u8] = b"\x01\0\0\0\x09\x20\0\0\0\0\0\0\0\x02\x01\0\0\0\x01Z\0";
 
 /// A rack with room for a few small logs, and these on the two halves of its first place.
-fn rack_of(rt: &HostRuntime, first: &[u8], second: &[u8]) -> Result<MemRack, Fail>
+pub(crate) fn rack_of(rt: &HostRuntime, first: &[u8], second: &[u8]) -> Result<MemRack, Fail>
     requires first { length first.now ≤ 100 }
     requires second { length second.now ≤ 100 }
 {
@@ -26,7 +26,7 @@ fn rack_of(rt: &HostRuntime, first: &[u8], second: &[u8]) -> Result<MemRack, Fai
 }
 
 /// A frame of some bytes.
-fn frame_of(rt: &HostRuntime, body: &[u8]) -> Result<Frame, Fail>
+pub(crate) fn frame_of(rt: &HostRuntime, body: &[u8]) -> Result<Frame, Fail>
     requires some { 1 ≤ length body.now }
     requires most { length body.now ≤ 9 }
     ensures { IfOk result (λ f. 1 ≤ length f.body) }
@@ -36,7 +36,7 @@ fn frame_of(rt: &HostRuntime, body: &[u8]) -> Result<Frame, Fail>
     Ok(frame)
 }
 
-/// Writes a half of the first place with a Half record and a body, and retires the other one.
+/// Writes a half of the first place with a Half record and a body, and switches to it from the other one.
 fn compact(rack: &mut MemRack, halves: (u8, u8), head: &Frame, body: &Frame) -> Option<()>
     requires new { halves.0 ≤ 5 }
     requires old { halves.1 ≤ 5 }
@@ -48,8 +48,8 @@ fn compact(rack: &mut MemRack, halves: (u8, u8), head: &Frame, body: &Frame) -> 
     let mut writer = HalfWriter::start(rack, new, 100).ok()?;
     writer.add(rack, head).ok()?;
     writer.add(rack, body).ok()?;
-    writer.finish(rack).ok()?;
-    retire(rack, old).ok()
+    switch_halves(rack, writer, old).ok()?;
+    Some(())
 }
 
 #[test]

@@ -1,9 +1,9 @@
 -- What one call for the next line does to a count over all lines.
-use Rattle.std.proofs.Common.{◌≡◌, ◌∙◌, ◌+◌, ℕ, Bool, true, List, ◌++◌, Option, Some, None, Result, Ok, subst, ap, sym, refl, arith}
+use Rattle.std.proofs.Common.{◌≡◌, ◌∙◌, ◌+◌, ◌≤◌, ℕ, Bool, true, List, ◌++◌, Option, Some, None, Result, Ok, subst, ap, sym, refl, arith}
 use Rattle.std.specs.Prelude.{IfOk}
 use Rattle.std.proofs.lemmas.List.Sums.{sum_by-cons}
 use Rattle.moving_tests.specs.LineBytes.{size_of_line, bytes_of_lines}
-use Rattle.seed_io.specs.Lines.{LineText, Reading, GivesLine, IsNextLine, NextLine, StandsIn, lines_left, listed}
+use Rattle.seed_io.specs.Lines.{LineText, Whole, Wide, Unended, line_size, Reading, GivesLine, IsNextLine, NextLine, StandsIn, lines_left, listed}
 use Rattle.seed_io.specs.Shelf.{Told}
 use Rattle.seed_io.specs.declared.lines.LineError.{LineError}
 
@@ -38,3 +38,9 @@ counted {file = file} {new = new} line total all next sum =
 -- a reading that ended has no lines left
 pub none_left : (file : List ℕ) (r : Reading) → r.over ≡ true → bytes_of_lines (lines_left file r) ≡ 0
 none_left file r over = rw over refl
+
+-- a line takes its bytes at least
+pub size_within : (line : LineText) → size_of_line line ≤ line_size (Some line)
+size_within (Whole line) = omega arith
+size_within Wide = omega arith
+size_within Unended = omega arith

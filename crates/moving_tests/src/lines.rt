@@ -1,6 +1,7 @@
 // Lines of a shelf's bytes, and a caller that reads them all.
 ghost use Rattle.std.specs.Prelude.{◌≡◌, ◌<◌, ◌^◌, ℕ, List, true, Some, IfOk};
-ghost use Rattle.moving_tests.specs.LineBytes.{bytes_of_lines};
+ghost use Rattle.moving_tests.specs.LineBytes.{bytes_of_lines, size_of_line};
+ghost use Rattle.seed_io.specs.Answered.{line_text};
 ghost use Rattle.seed_io.specs.Lines.{StandsIn, lines_left};
 
 use seed_io::{Line, LineError, Lines, MemShelf, Shelf, SureShelf};
@@ -16,11 +17,19 @@ fn bytes_in_lines<F: Shelf>(lines: &mut Lines, shelf: &mut F) -> Result<u64, Lin
     let mut total = 0u64;
     'each: loop {
         match lines.next_line(shelf)? {
-            Some(Line::Whole(line)) => total += line.len() as u64,
-            Some(Line::Wide) => {}
-            Some(Line::Unended) => {}
+            Some(line) => total += whole_bytes(line),
             None => return Ok(total),
         }
+    }
+}
+
+/// How many bytes a whole line has, and 0 of any other.
+fn whole_bytes(line: Line<'_>) -> u64
+    ensures { result ≡ size_of_line (line_text line.entry) }
+{
+    match line {
+        Line::Whole(bytes) => bytes.len() as u64,
+        Line::Wide | Line::Unended => 0,
     }
 }
 
