@@ -1,15 +1,16 @@
 -- Reading what has a name, whatever it is read as.
 use Rattle.std.specs.Prelude.{◌≡◌, ℕ, ◌<◌, ◌≤◌, List, length, Some, None}
 use Rattle.seed_io.specs.Shelf.{Told}
-use Rattle.goseed_words.specs.Commands.{Form, Recipe}
+use Rattle.goseed_words.specs.Commands.{Form, Recipe, Certificate}
 use Rattle.goseed_words.specs.Asked.{AsksToRead}
 use Rattle.command_texts.specs.declared.status.Status.{Status}
 use Rattle.command_texts.specs.Refusals.{Refuses, not_there, too_long}
-use Rattle.command_endings.specs.declared.limits.TheConstants.{MOST_RECIPE_BYTES}
+use Rattle.command_endings.specs.declared.limits.TheConstants.{MOST_RECIPE_BYTES, MOST_CERTIFICATE_BYTES}
 
 -- how many bytes are read at most
 abbrev pub most_bytes : Form → ℕ
 most_bytes Recipe = MOST_RECIPE_BYTES
+most_bytes Certificate = MOST_CERTIFICATE_BYTES
 
 -- the name has these bytes, and they are read
 pub record Reads (given : Told) (name : List ℕ) (form : Form) (bytes : List ℕ) : Type 0 where

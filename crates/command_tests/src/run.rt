@@ -6,10 +6,10 @@ use std::process::Abort;
 use std::test::Fail;
 use volume_disk::MemRack;
 
-const SMALL: &str = "a,01,10\na,02,20\nb,01,10\nb,03,30\nb,05,7\nc,04,5\nc,05,7\n";
+pub(crate) const SMALL: &str = "a,01,10\na,02,20\nb,01,10\nb,03,30\nb,05,7\nc,04,5\nc,05,7\n";
 
 /// The words of a line, with `|` between them; none where it is empty.
-fn words_of(alloc: Global, line: &str) -> Result<Vec<String>, Fail> {
+pub(crate) fn words_of(alloc: Global, line: &str) -> Result<Vec<String>, Fail> {
     let mut words = Vec::new(alloc);
     if !line.is_empty() {
         for word in line.split('|') {

@@ -4,8 +4,8 @@ use Rattle.std.specs.declared.io.ErrorKind.{ErrorKind}
 use Rattle.std.specs.declared.io.ErrorKind.TheVariants.{OutOfMemory}
 use Rattle.command_texts.specs.declared.status.Status.{Status}
 use Rattle.command_texts.specs.declared.status.Status.TheVariants.{Outside, Memory}
-use Rattle.command_endings.specs.Worlds.{Seen, OverWorld}
-use Rattle.goseed_top.specs.Causes.{Cause}
+use Rattle.command_endings.specs.Worlds.{Seen}
+use Rattle.goseed_top.specs.Causes.{CauseOver}
 use Rattle.goseed_top.specs.Endings.{Prints}
 use Rattle.goseed_cli.specs.ExitCodes.{exit_code}
 
@@ -20,5 +20,5 @@ pub record Exits (old new : Seen) (words : List (List ℕ)) (sink_tells : Bool) 
   pub status : Status
   pub is : code ≡ exit_code status
   pub answer : status ≢ Outside → status ≢ Memory → Prints old new words status sink_tells before after
-  pub cause : status ≢ Outside → status ≢ Memory → OverWorld old (λ found. Cause found words status)
+  pub cause : status ≢ Outside → status ≢ Memory → CauseOver old words status
   pub outside : status ≡ Outside → Stopped

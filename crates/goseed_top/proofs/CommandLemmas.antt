@@ -1,24 +1,26 @@
 -- Each command is lawful, and so are words: one ending, and a cause for it.
-use Rattle.std.proofs.Common.{◌≡◌, ℕ, List, refl, sym, subst, inl, inr}
+use Rattle.std.proofs.Common.{◌≡◌, ℕ, List, Bool, refl, sym, subst, inl, inr}
 use Rattle.std.specs.Prelude.{◌⊎◌, Result, Ok, Err}
+use Rattle.seed_io.specs.Shelf.{Told}
 use Rattle.goseed_words.specs.declared.order.Order.{Order}
 use Rattle.goseed_words.specs.declared.order.WordError.{WordError}
 use Rattle.goseed_words.specs.declared.order.WordError.TheVariants as word
 use Rattle.goseed_words.specs.Asked.{Asked}
-use Rattle.goseed_words.specs.Commands.{Command, Best, Weigh}
+use Rattle.goseed_words.specs.Commands.{Command, Best, Weigh, Check}
 use Rattle.goseed_words.specs.Orders.{Means, asked_of, IsSameMeaning, OneMeaning}
 use Rattle.command_texts.specs.declared.status.Status.{Status}
-use Rattle.command_texts.specs.declared.status.Status.TheVariants.{Refused, Outside, Memory}
+use Rattle.command_texts.specs.declared.status.Status.TheVariants.{Done, No, Refused, Outside, Memory}
 use Rattle.command_texts.specs.Refusals.{Refuses}
 use Rattle.command_endings.specs.Laws.{IsSameEnd, IsLawfulCommand}
 use Rattle.command_endings.specs.Worlds.{World, Seen, OverWorld, EndsOver}
 use Rattle.command_endings.proofs.DeterminedLemmas.{same_refusal, on_shelf_determined, reading_determined}
 use Rattle.command_endings.proofs.WorldLemmas.{over_weaker}
 use Rattle.planning_commands.specs.Causes.{PlanningCause}
-use Rattle.planning_commands.specs.Endings.{best_ends, weigh_ends}
-use Rattle.goseed_top.specs.Causes.{Cause, Words, Planning, WordCause, Usage, BadWord}
+use Rattle.planning_commands.specs.Check.{HearsCheck}
+use Rattle.planning_commands.specs.Endings.{best_ends, weigh_ends, check_ends}
+use Rattle.goseed_top.specs.Causes.{Cause, CauseOver, Words, Planning, WordCause, Usage, BadWord}
 use Rattle.goseed_top.specs.Determined.{OneEnding}
-use Rattle.goseed_top.specs.Endings.{AskedEnds, Ends, MeaningEnds, command_ends, no_order}
+use Rattle.goseed_top.specs.Endings.{Answers, AskedEnds, Ends, MeaningEnds, command_ends, no_order}
 
 -- a command of the crate of plans
 planning : (command : Command) → IsLawfulCommand PlanningCause command (command_ends command) → IsLawfulCommand Cause command (command_ends command)
@@ -39,11 +41,31 @@ no_stop found words status (Words cause) (inr is) = let refused = was_refused wo
 no_stop found words status (Planning cause) (inl is) = subst (PlanningCause found words) is cause
 no_stop found words status (Planning cause) (inr is) = subst (PlanningCause found words) is cause
 
-module _ (best : IsLawfulCommand PlanningCause Best best_ends) (weigh : IsLawfulCommand PlanningCause Weigh weigh_ends) where
+-- nor was one that heard a certificate
+ended_goes : (one : Status) → (one ≡ Done) ⊎ ((one ≡ No) ⊎ ((number : ℕ) × (one ≡ Refused number))) → (one ≡ Outside) ⊎ (one ≡ Memory) → ⊥
+ended_goes one (inl is) (inl stop) = cc (is, stop)
+ended_goes one (inl is) (inr stop) = cc (is, stop)
+ended_goes one (inr (inl is)) (inl stop) = cc (is, stop)
+ended_goes one (inr (inl is)) (inr stop) = cc (is, stop)
+ended_goes one (inr (inr is)) (inl stop) = cc (is.1, stop)
+ended_goes one (inr (inr is)) (inr stop) = cc (is.1, stop)
+
+heard_ends : (tells : Bool) (map : Told) (recipe name : List ℕ) (status : Status) (text : List ℕ) → HearsCheck tells map recipe name status text
+    → (status ≡ Done) ⊎ ((status ≡ No) ⊎ ((number : ℕ) × (status ≡ Refused number)))
+heard_ends tells map recipe name status text heard = elim heard.rest [
+  | inl lacks ↦ inr (inr (2, lacks.answers))
+  | inr more ↦ elim more [
+    | inl long ↦ inr (inr (3, long.answers))
+    | inr shown ↦ elim shown [ inl fails ↦ inr (inl fails.answers) | inr valid ↦ inl valid.answers ]
+  ]
+]
+
+module _ (best : IsLawfulCommand PlanningCause Best best_ends) (weigh : IsLawfulCommand PlanningCause Weigh weigh_ends) (check : IsLawfulCommand PlanningCause Check check_ends) where
   -- each command
   command_lawful : (command : Command) → IsLawfulCommand Cause command (command_ends command)
   command_lawful Best = planning Best best
   command_lawful Weigh = planning Weigh weigh
+  command_lawful Check = planning Check check
 
   meaning_determined : (a b : Result Order WordError) → IsSameMeaning a b → (found : World) (one other : Status) (text told : List ℕ) (left kept : World)
       → MeaningEnds a found one text left → MeaningEnds b found other told kept → IsSameEnd one other text told left kept
@@ -66,15 +88,20 @@ module _ (best : IsLawfulCommand PlanningCause Best best_ends) (weigh : IsLawful
   by_meaning words found left status text (Err (word.BadWord place)) means e = subst (Cause found words) (sym e.ends.ends.answers) (Words (BadWord place means))
 
   -- the cause holds over the world that was found
-  pub over_cause : (old new : Seen) (words : List (List ℕ)) (status : Status) (text : List ℕ) → EndsOver old new (Ends words) status text
+  over_cause : (old new : Seen) (words : List (List ℕ)) (status : Status) (text : List ℕ) → EndsOver old new (Ends words) status text
       → OverWorld old (λ found. Cause found words status)
   over_cause old new words status text over =
       over_weaker old (λ found. OverWorld new (λ left. Ends words found status text left)) (λ found. Cause found words status)
       (λ found more. let ends = more.holds.holds in
       by_meaning words found (record { files = more.given; devices = more.holds.given }) status text ends.meaning ends.means ends.ends) over
 
+  pub answers_cause : (old new : Seen) (words : List (List ℕ)) (status : Status) (text : List ℕ) → Answers old new words status text → CauseOver old words status
+  answers_cause old new words status text (inl over) = inl (over_cause old new words status text over)
+  answers_cause old new words status text (inr hears) = inr (text, hears)
+
   -- a command that ends was not stopped
-  pub not_stopped : (old new : Seen) (words : List (List ℕ)) (status : Status) (text : List ℕ) → EndsOver old new (Ends words) status text → (status ≡ Outside) ⊎ (status ≡ Memory) → ⊥
-  not_stopped old new words status text over stopped =
+  pub not_stopped : (old new : Seen) (words : List (List ℕ)) (status : Status) (text : List ℕ) → Answers old new words status text → (status ≡ Outside) ⊎ (status ≡ Memory) → ⊥
+  not_stopped old new words status text (inl over) stopped =
       let cause = over_cause old new words status text over in
       no_stop (record { files = cause.given; devices = cause.holds.given }) words status cause.holds.holds stopped
+  not_stopped old new words status text (inr hears) stopped = ended_goes status (heard_ends old.tells old.map hears.recipe hears.certificate status text hears.heard) stopped

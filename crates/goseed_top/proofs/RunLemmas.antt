@@ -13,7 +13,7 @@ use Rattle.command_texts.specs.Refusals.{Refuses}
 use Rattle.command_endings.specs.Creating.{LeavesOthers}
 use Rattle.command_endings.specs.Worlds.{World, ShelfEnding, Reading, OnShelf, Seen, seen, OverWorld, EndsOver}
 use Rattle.command_endings.proofs.WorldLemmas.{images, over_devices, over_weaker, on_shelf, reads, same_name}
-use Rattle.goseed_top.specs.Endings.{AskedEnds, Ends, MeaningEnds, CreatesFront, LeavesPart, PrintsPart, no_order}
+use Rattle.goseed_top.specs.Endings.{Answers, AskedEnds, Ends, Hears, MayEnd, MeaningEnds, CreatesFront, LeavesPart, PrintsPart, no_order}
 
 -- how words end, from how their meaning ends
 pub means : (old new : Seen) (words : List (List ℕ)) (meaning : Result Order WordError) (status : Status) (text : List ℕ) → Means words meaning
@@ -30,19 +30,26 @@ ends_error tells honest map disk words error status text mean refuses =
     (on_shelf tells honest map map disk (Reading (λ given. Refuses (no_order error))) status text
     (reads tells map map (λ given. Refuses (no_order error)) status text refl (record { given = map; told = λ told name. refl; holds = refuses })))
 
+-- the same of how an order ends
+pub means_order : (old new : Seen) (words : List (List ℕ)) (order : Order) (status : Status) (text : List ℕ) → Asks words (asked_of order)
+    → EndsOver old new (AskedEnds (asked_of order)) status text ⊎ ((asked : List (List ℕ)) → Asks asked (asked_of order) → Hears old asked status text) → Answers old new words status text
+means_order old new words order status text asks (inl over) = inl (means old new words (Ok order) status text asks over)
+means_order old new words order status text asks (inr hears) = inr (hears words asks)
+
 -- what a command printed that was stopped while it printed
-pub front_printed : (old new : Seen) (words : List (List ℕ)) (status : Status) (text before after : List ℕ) → EndsOver old new (Ends words) status text
+pub front_printed : (old new : Seen) (words : List (List ℕ)) (status : Status) (text before after : List ℕ) → Answers old new words status text
     → (count : ℕ) × (after ≡ before ++ take count text) → PrintsPart old words before after
-front_printed old new words status text before after over front =
-    let left = over.holds.holds in
-    inr (record {
-      status = status;
-      text = text;
-      left = record { files = left.given; devices = left.holds.given };
-      ends = record { given = over.given; told = over.told; holds = record { given = over.holds.given; told = over.holds.told; holds = left.holds.holds } };
-      count = front.0;
-      taken = front.1;
-    })
+front_printed old new words status text before after answers front =
+    inr (record { status = status; text = text; ends = may_end answers; count = front.0; taken = front.1 })
+  where
+    may_end : Answers old new words status text → MayEnd old words status text ⊎ Hears old words status text
+    may_end (inl over) =
+        let left = over.holds.holds in
+        inl (record {
+          left = record { files = left.given; devices = left.holds.given };
+          ends = record { given = over.given; told = over.told; holds = record { given = over.holds.given; told = over.holds.told; holds = left.holds.holds } };
+        })
+    may_end (inr hears) = inr hears
 
 -- what a command leaves that changed nothing
 pub leaves_same : (old : Seen) (new : Told) (words : List (List ℕ)) → new ≡ old.map → LeavesPart old new words

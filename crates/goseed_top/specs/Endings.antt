@@ -4,19 +4,21 @@ use Rattle.seed_io.specs.Shelf.{Told}
 use Rattle.goseed_words.specs.declared.order.Order.{Order}
 use Rattle.goseed_words.specs.declared.order.WordError.{WordError}
 use Rattle.goseed_words.specs.declared.order.WordError.TheVariants.{Usage, BadWord}
-use Rattle.goseed_words.specs.Commands.{Command, Best, Weigh, row}
-use Rattle.goseed_words.specs.Asked.{Asked, Takes, IsCreated}
+use Rattle.goseed_words.specs.Commands.{Command, Best, Weigh, Check, row}
+use Rattle.goseed_words.specs.Asked.{Asked, Asks, Takes, IsCreated, asking}
 use Rattle.goseed_words.specs.Orders.{Means, asked_of}
 use Rattle.command_texts.specs.declared.status.Status.{Status}
 use Rattle.command_endings.specs.Laws.{ends_with}
 use Rattle.command_endings.specs.Worlds.{World, Ending, Reading, OnShelf, Seen, OverWorld, EndsOver}
 use Rattle.command_texts.specs.Refusals.{Refusal, Refuses, usage, bad_word}
-use Rattle.planning_commands.specs.Endings.{best_ends, weigh_ends}
+use Rattle.planning_commands.specs.Check.{HearsCheck}
+use Rattle.planning_commands.specs.Endings.{best_ends, weigh_ends, check_ends}
 
 -- how each command ends
 abbrev pub command_ends : (command : Command) → Takes (row command).operands Ending
 command_ends Best = best_ends
 command_ends Weigh = weigh_ends
+command_ends Check = check_ends
 
 -- how a command with its values ends
 abbrev pub AskedEnds : Asked → Ending
@@ -38,18 +40,33 @@ pub record Ends (words : List (List ℕ)) (found : World) (status : Status) (tex
   pub means : Means words meaning
   pub ends : MeaningEnds meaning found status text left
 
+-- the words ask to judge a certificate, and the shelf does not tell its bytes: so it ends, whatever the shelf gave of it
+pub record Hears (old : Seen) (words : List (List ℕ)) (status : Status) (text : List ℕ) : Type 0 where
+  pub recipe : List ℕ
+  pub certificate : List ℕ
+  pub asks : Asks words (asking Check recipe certificate)
+  pub heard : HearsCheck old.tells old.map recipe certificate status text
+
+-- how a command with these words ends over a shelf and a rack: as what they hold determines it, where the shelf tells its bytes
+abbrev pub Answers : Seen → Seen → List (List ℕ) → Status → List ℕ → Type 0
+Answers old new words status text = EndsOver old new (Ends words) status text ⊎ Hears old words status text
+
 -- the command's text was printed whole, behind what was printed before
 pub record Prints (old new : Seen) (words : List (List ℕ)) (status : Status) (sink_tells : Bool) (before after : List ℕ) : Type 0 where
   pub text : List ℕ
-  pub ends : EndsOver old new (Ends words) status text
+  pub ends : Answers old new words status text
   pub taken : sink_tells ≡ true → after ≡ before ++ text
+
+-- a command with these words may end so, and leave this
+pub record MayEnd (old : Seen) (words : List (List ℕ)) (status : Status) (text : List ℕ) : Type 0 where
+  pub left : World
+  pub ends : OverWorld old (λ found. Ends words found status text left)
 
 -- a front of a text was printed that ends the command
 pub record PrintsFront (old : Seen) (words : List (List ℕ)) (before after : List ℕ) : Type 0 where
   pub status : Status
   pub text : List ℕ
-  pub left : World
-  pub ends : OverWorld old (λ found. Ends words found status text left)
+  pub ends : MayEnd old words status text ⊎ Hears old words status text
   pub count : ℕ
   pub taken : after ≡ before ++ take count text
 

@@ -4,14 +4,15 @@ ghost use Rattle.fault_count.specs.Counts.{Rose};
 ghost use Rattle.goseed_words.specs.Asked.{Asks, IsCreated, IsLawful, UsesSite};
 ghost use Rattle.goseed_words.specs.Commands.{row};
 ghost use Rattle.goseed_words.specs.Orders.{asked_of, texts, MeansNoOrder};
-ghost use Rattle.command_endings.specs.Worlds.{EndsOver, OverWorld, seen};
-ghost use Rattle.goseed_top.specs.Causes.{Cause};
-ghost use Rattle.goseed_top.specs.Endings.{AskedEnds, Ends, LeavesPart, Prints, PrintsPart};
+ghost use Rattle.command_endings.specs.Worlds.{EndsOver, seen};
+ghost use Rattle.goseed_top.specs.Causes.{CauseOver};
+ghost use Rattle.goseed_top.specs.Endings.{Answers, AskedEnds, Hears, LeavesPart, Prints, PrintsPart};
 ghost use Rattle.goseed_top.specs.Faults.{HandsOnBoth, faults};
 
 use command_texts::{Halt, Refusal, Report, Status, or_halt, refused};
 use goseed_words::{Order, WordError, order_of, word_laws};
 use planning_commands::best::best;
+use planning_commands::check::check;
 use planning_commands::planning_laws;
 use planning_commands::weigh::weigh;
 use seed_io::{Shelf, Sink, SinkError};
@@ -34,7 +35,7 @@ pub fn run<F: Shelf, K: Sink, R: Rack>(
 
     // Why it answered so.
     ensures cause { result ≢ Status.Outside → result ≢ Status.Memory
-        → OverWorld (seen (F.tells shelf.old) (F.map shelf.old) (R.honest rack.old) (R.disk rack.old)) (λ found. Cause found (texts words.now) result) }
+        → CauseOver (seen (F.tells shelf.old) (F.map shelf.old) (R.honest rack.old) (R.disk rack.old)) (texts words.now) result }
 
     // Why it was stopped: a call of the shelf, of the sink, or of the rack failed, or memory ran out.
     ensures outside { result ≡ Status.Outside → Rose (F.faults shelf.old) (F.faults shelf.new) ⊎ (Rose (K.faults out.old) (K.faults out.new) ⊎ (UsesSite (texts words.now) × Rose (R.faults rack.old) (R.faults rack.new))) }
@@ -83,7 +84,7 @@ fn report_of<F: Shelf, R: Rack>(
     shelf: &mut F,
     rack: &mut R,
 ) -> Result<Report, Halt>
-    ensures report { IfOk result (λ report. EndsOver (seen (F.tells shelf.old) (F.map shelf.old) (R.honest rack.old) (R.disk rack.old)) (seen (F.tells shelf.old) (F.map shelf.new) (R.honest rack.old) (R.disk rack.new)) (Ends (texts words.now)) report.status report.text.items) }
+    ensures report { IfOk result (λ report. Answers (seen (F.tells shelf.old) (F.map shelf.old) (R.honest rack.old) (R.disk rack.old)) (seen (F.tells shelf.old) (F.map shelf.new) (R.honest rack.old) (R.disk rack.new)) (texts words.now) report.status report.text.items) }
     ensures left { F.tells shelf.old ≡ true → LeavesPart (seen (F.tells shelf.old) (F.map shelf.old) (R.honest rack.old) (R.disk rack.old)) (F.map shelf.new) (texts words.now) }
     ensures same { ((name : List ℕ) → ¬ IsCreated (texts words.now) name) → F.map shelf.new ≡ F.map shelf.old }
     ensures untouched { MeansNoOrder (texts words.now) → shelf.new ≡ shelf.old }
@@ -110,7 +111,8 @@ fn report_of_order<F: Shelf, R: Rack>(
     rack: &mut R,
 ) -> Result<Report, Halt>
     requires { IsLawful (asked_of order) }
-    ensures report { IfOk result (λ report. EndsOver (seen (F.tells shelf.old) (F.map shelf.old) (R.honest rack.old) (R.disk rack.old)) (seen (F.tells shelf.old) (F.map shelf.new) (R.honest rack.old) (R.disk rack.new)) (AskedEnds (asked_of order.entry)) report.status report.text.items) }
+    ensures report { IfOk result (λ report. EndsOver (seen (F.tells shelf.old) (F.map shelf.old) (R.honest rack.old) (R.disk rack.old)) (seen (F.tells shelf.old) (F.map shelf.new) (R.honest rack.old) (R.disk rack.new)) (AskedEnds (asked_of order.entry)) report.status report.text.items
+        ⊎ ((words : List (List ℕ)) → Asks words (asked_of order.entry) → Hears (seen (F.tells shelf.old) (F.map shelf.old) (R.honest rack.old) (R.disk rack.old)) words report.status report.text.items)) }
     ensures left { F.tells shelf.old ≡ true → (words : List (List ℕ)) → Asks words (asked_of order.entry) → LeavesPart (seen (F.tells shelf.old) (F.map shelf.old) (R.honest rack.old) (R.disk rack.old)) (F.map shelf.new) words }
     ensures same { (words : List (List ℕ)) → Asks words (asked_of order.entry) → ((name : List ℕ) → ¬ IsCreated words name) → F.map shelf.new ≡ F.map shelf.old }
     ensures off_site { (row (asked_of order.entry).command).uses_site ≡ false → rack.new ≡ rack.old }
@@ -125,5 +127,9 @@ fn report_of_order<F: Shelf, R: Rack>(
             slack,
         } => best(alloc, shelf, recipe, target, slack),
         Order::Weigh { recipe, set } => weigh(alloc, shelf, recipe, set),
+        Order::Check {
+            recipe,
+            certificate,
+        } => check(alloc, shelf, recipe, certificate),
     }
 }

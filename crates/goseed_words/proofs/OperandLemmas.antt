@@ -15,3 +15,10 @@ pub second_created : (form : Form) (kinds : List Kind) (words : List (List ℕ))
 second_created form kinds (word ∷ next ∷ words) values say = inr (inl (refl, say.1.0))
 second_created form kinds (word ∷ []) values say = absurd say.1
 second_created form kinds [] values say = absurd say
+
+-- one whose second operand is read
+pub second_read : (first form : Form) (kinds : List Kind) (words : List (List ℕ)) (values : Values (Reads first ∷ Reads form ∷ kinds)) → SayAll (Reads first ∷ Reads form ∷ kinds) words values
+    → HasOperand (Reads first ∷ Reads form ∷ kinds) words (Reads form) values.1.0
+second_read first form kinds (word ∷ next ∷ words) values say = inr (inl (refl, say.1.0))
+second_read first form kinds (word ∷ []) values say = absurd say.1
+second_read first form kinds [] values say = absurd say

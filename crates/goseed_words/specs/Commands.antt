@@ -8,6 +8,7 @@ use Rattle.goseed_words.specs.Amounts.{SpellsAmount, IsAmount}
 -- what a byte string is read as
 pub data Form : Type 0 where
   Recipe : Form
+  Certificate : Form
 
 -- what an operand is: the name of a byte string that is read, or of one that is created; a set of files; an amount; a number
 -- up to a limit
@@ -50,6 +51,7 @@ IsLawfulValue (ANumber limit) n = IsUpTo limit n
 pub data Command : Type 0 where
   Best : Command
   Weigh : Command
+  Check : Command
 
 -- a command's name and operands, and whether it uses the site
 pub record Row : Type 0 where
@@ -60,3 +62,4 @@ pub record Row : Type 0 where
 abbrev pub row : Command → Row
 row Best = record { name = codes "best"; operands = Reads Recipe ∷ AnAmount ∷ AnAmount ∷ []; uses_site = false }
 row Weigh = record { name = codes "weigh"; operands = Reads Recipe ∷ ASet ∷ []; uses_site = false }
+row Check = record { name = codes "check"; operands = Reads Recipe ∷ Reads Certificate ∷ []; uses_site = false }

@@ -32,6 +32,11 @@ pub enum Order<'w> {
         recipe: &'w str,
         set: &'w str,
     },
+    /// Judge a certificate by a recipe.
+    Check {
+        recipe: &'w str,
+        certificate: &'w str,
+    },
 }
 
 /// The order that words mean, the first word being the command. It takes no memory.
@@ -45,6 +50,7 @@ pub fn order_of<'w>(words: &'w [String]) -> Result<Order<'w>, WordError>
     match command.as_str() {
         "best" => best_of(operands),
         "weigh" => weigh_of(operands),
+        "check" => check_of(operands),
         _ => Err(WordError::Usage),
     }
 }
@@ -76,6 +82,20 @@ fn weigh_of<'w>(operands: &'w [String]) -> Result<Order<'w>, WordError>
     };
     let set = set_at(3, set)?;
     Ok(Order::Weigh { recipe, set })
+}
+
+/// The order `check` with these operands.
+fn check_of<'w>(operands: &'w [String]) -> Result<Order<'w>, WordError>
+    ensures meaning { Means (codes "check" ∷ texts operands.now) result }
+    ensures lawful { IfOk result (λ order. IsLawful (asked_of order)) }
+{
+    let Some((recipe, certificate)) = two(operands) else {
+        return Err(WordError::Usage);
+    };
+    Ok(Order::Check {
+        recipe,
+        certificate,
+    })
 }
 
 /// The amount that the word at a place spells.

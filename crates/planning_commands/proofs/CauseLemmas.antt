@@ -1,22 +1,24 @@
 -- How a command on plans ends has the cause of its status.
 use Rattle.std.proofs.Common.{◌∷◌, [], ℕ, List, sym, subst, inl, inr, length}
+use Rattle.seed_model.specs.Tables.{IsTable}
+use Rattle.bound_cert.specs.Laws.{ValidIsSo}
+use Rattle.chunk_merge.specs.Merged.{KeepsSums}
 use Rattle.recipe_reader.specs.Recipes.{RecipeValue}
+use Rattle.seed_io.specs.Shelf.{Told}
 use Rattle.goseed_words.specs.declared.amount.Amount.{Amount}
 use Rattle.goseed_words.specs.Asked.{Asks, AsksToRead, Values}
-use Rattle.goseed_words.specs.Commands.{Recipe, ASet, AnAmount, Best, Weigh, row}
-use Rattle.goseed_words.proofs.OperandLemmas.{first_read}
+use Rattle.goseed_words.specs.Commands.{Recipe, Certificate, Reads, ASet, AnAmount, Best, Weigh, Check, row}
+use Rattle.goseed_words.proofs.OperandLemmas.{first_read, second_read}
 use Rattle.command_texts.specs.declared.status.Status.{Status}
-use Rattle.command_texts.specs.Refusals.{Refuses, Refusal, not_there, too_long, no_recipe, bad_word, too_many_files}
+use Rattle.command_texts.specs.Refusals.{not_there, too_long, no_recipe, bad_word, too_many_files}
 use Rattle.command_endings.specs.Worlds.{World}
 use Rattle.planning_commands.specs.Best.{BestEnds, BestOf, AsksBest}
-use Rattle.planning_commands.specs.Causes.{PlanningCause, RefusalCause, NotThere, TooLong, NoRecipe, NoSet, TooManyFiles, BestDone, BestNone, WeighDone}
+use Rattle.planning_commands.specs.Causes.{PlanningCause, NotThere, TooLong, NoRecipe, NoSet, TooManyFiles, BestDone, BestNone, WeighDone}
 use Rattle.planning_commands.specs.Reading.{HoldsRecipe, RecipeEnds}
 use Rattle.planning_commands.specs.Weigh.{WeighEnds, WeighOf, AsksWeigh}
-
--- a refusal with its cause
-by_refusal : (found : World) (words : List (List ℕ)) (refusal : Refusal) (status : Status) (text : List ℕ) → Refuses refusal status text → RefusalCause found.files words refusal.number
-    → PlanningCause found words status
-by_refusal found words refusal status text refuses cause = subst (PlanningCause found words) (sym refuses.answers) cause
+use Rattle.planning_commands.specs.Check.{CheckEnds, judged_table}
+use Rattle.planning_commands.proofs.CheckLemmas.{check_cause}
+use Rattle.planning_commands.proofs.Refusing.{by_refusal}
 
 -- a command that reads the recipe of a name has the cause of its status, where one that got the recipe has it
 recipe_cause : (found : World) (words : List (List ℕ)) (name : List ℕ) (status : Status) (text : List ℕ) (Rest : RecipeValue → Type 0) → AsksToRead words Recipe name
@@ -62,3 +64,13 @@ pub weigh_caused : (words : List (List ℕ)) (values : Values (row Weigh).operan
 weigh_caused words values asks found status text e =
     recipe_cause found words values.0 status text _ (record { asked = record { command = Weigh; values = values }; asks = asks; reads = first_read Recipe (ASet ∷ []) asks.fits.operands values asks.say })
     (λ recipe held rest. weigh_cause found words recipe values.1.0 status text (record { name = values.0; asks = asks; held = held }) rest) e
+
+pub check_caused : ValidIsSo → KeepsSums → ((given : Told) (name : List ℕ) (recipe : RecipeValue) → HoldsRecipe given name recipe → IsTable (judged_table recipe))
+    → (words : List (List ℕ)) (values : Values (row Check).operands) → Asks words (record { command = Check; values = values })
+    → (found : World) (status : Status) (text : List ℕ) → CheckEnds values.0 values.1.0 found.files status text → PlanningCause found words status
+check_caused sound sums lawful words values asks found status text e =
+    let reads : AsksToRead words Certificate values.1.0 =
+    record { asked = record { command = Check; values = values }; asks = asks; reads = second_read Recipe Certificate [] asks.fits.operands values asks.say } in
+    recipe_cause found words values.0 status text _
+    (record { asked = record { command = Check; values = values }; asks = asks; reads = first_read Recipe (Reads Certificate ∷ []) asks.fits.operands values asks.say })
+    (λ recipe held rest. check_cause sound sums found words recipe values.1.0 status text (lawful found.files values.0 recipe held) (record { read = values.0; asks = asks; held = held }) reads rest) e

@@ -5,12 +5,15 @@ use Rattle.csv_rows.specs.Rows.{rows_of}
 use Rattle.seed_io.specs.Shelf.{Told}
 use Rattle.seed_model.specs.declared.range.Range.{Range}
 use Rattle.seed_model.specs.Files.{holds}
+use Rattle.seed_model.specs.Tables.{IsTable}
 use Rattle.seed_text.specs.SetTexts.{OneSpelling}
+use Rattle.bound_cert.specs.Laws.{ValidIsSo, OneFailure, RunsOnUnfailed, FailureIsNotValid, OneDocument}
+use Rattle.chunk_merge.specs.Merged.{KeepsSums}
 use Rattle.recipe_reader.specs.declared.error.RecipeError.{RecipeError}
 use Rattle.recipe_reader.specs.Recipes.{RecipeValue, empty_recipe, table_of}
 use Rattle.recipe_reader.specs.Reading.{Leads, IsFirstFault}
 use Rattle.goseed_words.specs.declared.amount.Amount.{Amount}
-use Rattle.goseed_words.specs.Commands.{Recipe, Best, Weigh}
+use Rattle.goseed_words.specs.Commands.{Recipe, Best, Weigh, Check}
 use Rattle.command_texts.specs.declared.status.Status.{Status}
 use Rattle.command_texts.specs.Refusals.{Refuses, bad_word, not_there, too_long, no_recipe, too_many_files}
 use Rattle.command_endings.specs.Laws.{IsLawfulCommand}
@@ -18,11 +21,13 @@ use Rattle.command_endings.specs.Reading.{most_bytes}
 use Rattle.command_endings.proofs.DeterminedLemmas.{IsSame, IsRefused, refused, same_refused, same_refusal, on_shelf_determined, reading_determined}
 use Rattle.planning_commands.specs.Best.{BestEnds, BestOf, PrintsBest, PrintsNone, range_in}
 use Rattle.planning_commands.specs.Causes.{PlanningCause}
-use Rattle.planning_commands.specs.Endings.{best_ends, weigh_ends}
+use Rattle.planning_commands.specs.Check.{CheckEnds, judged_table}
+use Rattle.planning_commands.specs.Endings.{best_ends, weigh_ends, check_ends}
 use Rattle.planning_commands.specs.Reading.{LacksRecipe, HoldsRecipe, RecipeEnds}
 use Rattle.planning_commands.specs.Texts.{best_text, weigh_text}
 use Rattle.planning_commands.specs.Weigh.{WeighEnds, WeighOf}
-use Rattle.planning_commands.proofs.CauseLemmas.{best_caused, weigh_caused}
+use Rattle.planning_commands.proofs.CauseLemmas.{best_caused, weigh_caused, check_caused}
+use Rattle.planning_commands.proofs.CheckLemmas.{same_check}
 use Rattle.planning_commands.proofs.PlanLemmas.{same_plan}
 
 same_best : (recipe : RecipeValue) (target slack : Amount) (one other : Status) (text told : List ℕ) → BestOf target slack one text recipe → BestOf target slack other told recipe
@@ -112,4 +117,13 @@ module _ (one_spelling : OneSpelling)
         (λ given one other text told p q. same_reading given values.0 _ _ one other text told (same_refused one other text told)
         (λ recipe a b. same_weigh recipe values.1.0 one other text told a b) p q));
     caused = λ words values asks found left status text e. weigh_caused words values asks found status text e.ends.ends;
+  }
+
+  pub check_lawful : ValidIsSo → KeepsSums → OneFailure → RunsOnUnfailed → FailureIsNotValid → OneDocument
+      → ((given : Told) (name : List ℕ) (recipe : RecipeValue) → HoldsRecipe given name recipe → IsTable (judged_table recipe)) → IsLawfulCommand PlanningCause Check check_ends
+  check_lawful sound sums one_failure unfailed failed one_document lawful = record {
+    determined = λ values. on_shelf_determined _ (reading_determined (CheckEnds values.0 values.1.0)
+        (λ given one other text told p q. same_reading given values.0 _ _ one other text told (same_refused one other text told)
+        (λ recipe a b. same_check one_failure unfailed failed one_document given values.1.0 recipe one other text told a b) p q));
+    caused = λ words values asks found left status text e. check_caused sound sums lawful words values asks found status text e.ends.ends;
   }

@@ -7,6 +7,7 @@ use Rattle.command_texts.specs.Refusals.{no_recipe}
 use Rattle.command_endings.specs.Laws.{Reason}
 use Rattle.command_endings.specs.Reading.{AsksForNone, AsksForMore}
 use Rattle.planning_commands.specs.Best.{HasBest, HasNone, HasMany}
+use Rattle.planning_commands.specs.Check.{HasCertificate, HasFailure}
 use Rattle.planning_commands.specs.Reading.{AsksForFault}
 use Rattle.planning_commands.specs.Weigh.{HasSet, HasNoSet}
 
@@ -14,10 +15,12 @@ use Rattle.planning_commands.specs.Weigh.{HasSet, HasNoSet}
 pub data DoneCause (given : Told) (words : List (List ℕ)) : Type 0 where
   BestDone : HasBest given words → DoneCause given words
   WeighDone : HasSet given words → DoneCause given words
+  CheckDone : HasCertificate given words → DoneCause given words
 
 -- why its answer is no
 pub data NoCause (given : Told) (words : List (List ℕ)) : Type 0 where
   BestNone : HasNone given words → NoCause given words
+  CheckFails : HasFailure given words → NoCause given words
 
 -- each refusal by its number, and its cause
 pub data RefusalCause (given : Told) (words : List (List ℕ)) : ℕ → Type 0 where

@@ -1,6 +1,8 @@
 pub mod Best
 pub mod Causes
+pub mod Check
 pub mod Endings
+pub mod Findings
 pub mod Reading
 pub mod Tables
 pub mod Texts

@@ -1,10 +1,12 @@
 -- The texts that the commands on plans print. Each line ends with a line feed.
-use Rattle.std.specs.Prelude.{ℕ, ◌==◌, List, [], ◌∷◌, ◌++◌, Bool, length, filter, codes, if◌then◌else◌}
+use Rattle.std.specs.Prelude.{ℕ, ◌==◌, List, [], ◌∷◌, ◌++◌, Bool, length, filter, codes, if◌then◌else◌, Option, Some, None}
 use Rattle.seed_model.specs.Files.{holds}
 use Rattle.seed_model.specs.Sums.{migrated_of, touched_of, replicated_of}
 use Rattle.seed_model.specs.Tables.{TableValue}
 use Rattle.seed_model.specs.declared.table.Class.{Class}
 use Rattle.seed_text.specs.SetTexts.{set_text}
+use Rattle.bound_cert.specs.declared.heading.Answer.{Answer}
+use Rattle.bound_cert.specs.declared.heading.Answer.TheVariants.{Optimal, Infeasible, Open}
 use Rattle.recipe_reader.specs.Recipes.{RecipeValue, bytes_of, table_of}
 use Rattle.chunk_merge.specs.Merged.{merged}
 use Rattle.command_texts.specs.Lines.{line, lines_of, number_line, numbers_line}
@@ -21,6 +23,35 @@ file_lines set names = lines_of (file_line set) names
 abbrev pub plan_lines : List ℕ → ℕ → ℕ → List ℕ
 plan_lines set migrated replicated =
     line (codes "plan" ++ codes " " ++ set) ++ number_line (codes "migrated") migrated ++ number_line (codes "replicated") replicated
+
+-- what a certificate shows, as it is printed
+abbrev pub answer_word : Answer → List ℕ
+answer_word Optimal = codes "optimal"
+answer_word Infeasible = codes "infeasible"
+answer_word Open = codes "open"
+
+abbrev pub answer_line : Answer → List ℕ
+answer_line answer = line (codes "answer " ++ answer_word answer)
+
+-- a plan, or none, with its sums
+abbrev pub planned_lines : Option (List Bool) → ℕ → ℕ → List ℕ
+planned_lines (Some plan) migrated replicated = plan_lines (set_text plan) migrated replicated
+planned_lines None migrated replicated = line (codes "plan none")
+
+-- a bound, or none
+abbrev pub bound_line : Option ℕ → List ℕ
+bound_line (Some bound) = number_line (codes "bound") bound
+bound_line None = line (codes "bound none")
+
+-- the files of a plan, if there is one
+abbrev pub planned_files : Option (List Bool) → List (List ℕ) → List ℕ
+planned_files (Some plan) names = file_lines (holds plan) names
+planned_files None names = []
+
+-- an answer with its plan, its bound, and how many branchings it took
+abbrev pub answer_lines : List (List ℕ) → Answer → Option (List Bool) → ℕ → ℕ → Option ℕ → ℕ → List ℕ
+answer_lines names answer plan migrated replicated bound branchings =
+    answer_line answer ++ planned_lines plan migrated replicated ++ bound_line bound ++ number_line (codes "branchings") branchings ++ planned_files plan names
 
 -- what `best` prints of a best set
 abbrev pub best_text : RecipeValue → List Bool → List ℕ

@@ -44,7 +44,12 @@ pub(crate) fn text_of_none(alloc: Global) -> Result<Vec<u8>, NoMemory>
 }
 
 /// Puts the lines of a plan behind a text.
-fn add_plan(text: &mut Vec<u8>, set: &[u8], migrated: u64, replicated: u64) -> Result<(), NoMemory>
+pub(crate) fn add_plan(
+    text: &mut Vec<u8>,
+    set: &[u8],
+    migrated: u64,
+    replicated: u64,
+) -> Result<(), NoMemory>
     ensures { OnOk result (text.new.items ≡ text.old.items ++ plan_lines set.now migrated replicated) }
 {
     add_line(text, b"plan", set)?;
@@ -53,7 +58,7 @@ fn add_plan(text: &mut Vec<u8>, set: &[u8], migrated: u64, replicated: u64) -> R
 }
 
 /// Puts a line for each file of a plan behind a text.
-fn add_files(text: &mut Vec<u8>, recipe: &Recipe, plan: &PlanSet) -> Result<(), NoMemory>
+pub(crate) fn add_files(text: &mut Vec<u8>, recipe: &Recipe, plan: &PlanSet) -> Result<(), NoMemory>
     requires { length plan.now ≡ length recipe.now.files }
     ensures { OnOk result (text.new.items ≡ text.old.items ++ file_lines (holds plan.now) recipe.now.files) }
 {

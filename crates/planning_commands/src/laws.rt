@@ -1,9 +1,12 @@
 // What is proved of how each command ends.
-ghost use Rattle.goseed_words.specs.Commands.{Best, Weigh};
+ghost use Rattle.goseed_words.specs.Commands.{Best, Weigh, Check};
 ghost use Rattle.command_endings.specs.Laws.{IsLawfulCommand};
 ghost use Rattle.planning_commands.specs.Causes.{PlanningCause};
-ghost use Rattle.planning_commands.specs.Endings.{best_ends, weigh_ends};
+ghost use Rattle.planning_commands.specs.Endings.{best_ends, weigh_ends, check_ends};
 
+use bound_cert::certificate_laws;
+use chunk_merge::merge_laws;
+use incidence::incidence_laws;
 use recipe_reader::recipe_laws;
 use seed_text::set_text_laws;
 
@@ -11,7 +14,11 @@ use seed_text::set_text_laws;
 pub fn planning_laws()
     ensures best { IsLawfulCommand PlanningCause Best best_ends }
     ensures weigh { IsLawfulCommand PlanningCause Weigh weigh_ends }
+    ensures check { IsLawfulCommand PlanningCause Check check_ends }
 {
+    certificate_laws();
+    incidence_laws();
+    merge_laws();
     recipe_laws();
     set_text_laws();
 }

@@ -1,8 +1,11 @@
 //! The commands on plans: what each reads, tries and prints.
 #![tactic(auto)]
 
+mod answer_text;
 pub mod best;
 mod best_text;
+pub mod check;
+mod checked_text;
 pub mod laws;
 mod merged_table;
 mod reading;

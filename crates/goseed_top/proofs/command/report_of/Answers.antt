@@ -1,13 +1,13 @@
-use Rattle.std.specs.Prelude.{Ok}
+use Rattle.std.proofs.Common.{inl}
 use Rattle.std.proofs.lemmas.Result.{IfOk-weaker}
 use Rattle.goseed_words.specs.declared.order.WordError.TheVariants.{Usage, BadWord}
-use Rattle.goseed_top.proofs.RunLemmas.{means, ends_error, asked_or_none, off_site}
+use Rattle.goseed_top.proofs.RunLemmas.{means_order, ends_error, asked_or_none, off_site}
 use Rattle.command_texts.proofs.HaltLemmas.{through_halt}
 use Rattle.goseed_top.proofs.command.report_of.Goals as goal
 
 pub returns-in-Ok-clause-report : goal.returns-in-Ok-clause-report
 returns-in-Ok-clause-report g c =
-    IfOk-weaker c.report_of_order.result _ _ (λ report ends. means _ _ _ (Ok c.in-Ok.order) _ _ c.in-Ok.ensures.meaning ends) c.report_of_order.ensures.report
+    IfOk-weaker c.report_of_order.result _ _ (λ report ends. means_order _ _ _ c.in-Ok.order _ _ c.in-Ok.ensures.meaning ends) c.report_of_order.ensures.report
 
 pub returns-in-Ok-clause-same : goal.returns-in-Ok-clause-same
 returns-in-Ok-clause-same g c = λ none. c.report_of_order.ensures.same _ c.in-Ok.ensures.meaning none
@@ -24,9 +24,9 @@ returns-in-Ok-clause-off_site g c = λ none. c.report_of_order.ensures.off_site 
 pub returns-in-Err-Usage-clause-report : goal.returns-in-Err-Usage-clause-report
 returns-in-Err-Usage-clause-report g c =
     through_halt _ _ c.refused.result c.or_halt.result c.or_halt.ensures.ok c.refused.ensures
-    (λ report refuses. ends_error _ _ _ _ _ Usage _ _ (rw c.in-Err-Usage.field-0-is at c.in-Err-Usage.ensures.meaning) refuses)
+    (λ report refuses. inl (ends_error _ _ _ _ _ Usage _ _ (rw c.in-Err-Usage.field-0-is at c.in-Err-Usage.ensures.meaning) refuses))
 
 pub returns-in-Err-BadWord-clause-report : goal.returns-in-Err-BadWord-clause-report
 returns-in-Err-BadWord-clause-report g c =
     through_halt _ _ c.refused-in-Err-BadWord.result c.or_halt-in-Err-BadWord.result c.or_halt-in-Err-BadWord.ensures.ok c.refused-in-Err-BadWord.ensures
-    (λ report refuses. ends_error _ _ _ _ _ (BadWord c.in-Err-BadWord.place) _ _ (rw c.in-Err-BadWord.field-0-is at c.in-Err-BadWord.ensures.meaning) refuses)
+    (λ report refuses. inl (ends_error _ _ _ _ _ (BadWord c.in-Err-BadWord.place) _ _ (rw c.in-Err-BadWord.field-0-is at c.in-Err-BadWord.ensures.meaning) refuses))

@@ -1,7 +1,9 @@
+use Rattle.std.proofs.Common.{inl, inr}
 use Rattle.std.proofs.lemmas.Result.{IfOk-weaker}
 use Rattle.command_endings.specs.Worlds.{Reading}
 use Rattle.command_endings.proofs.WorldLemmas.{reads, on_shelf}
 use Rattle.planning_commands.specs.Best.{BestEnds}
+use Rattle.planning_commands.specs.Check.{CheckEnds}
 use Rattle.planning_commands.specs.Weigh.{WeighEnds}
 use Rattle.goseed_top.proofs.command.report_of_order.Goals as goal
 
@@ -14,9 +16,17 @@ best-requires-clause-slack g c = (rw c.in-Best.is at c.requires).1.1.0
 pub returns-in-Best-clause-report : goal.returns-in-Best-clause-report
 returns-in-Best-clause-report g c = rw c.in-Best.is
     (let E = BestEnds c.in-Best.recipe.now c.in-Best.target c.in-Best.slack in
-    IfOk-weaker c.best.result _ _ (λ report over. on_shelf _ _ _ _ _ (Reading E) _ _ (reads _ _ _ E _ _ c.best.ensures.same over)) c.best.ensures.report)
+    IfOk-weaker c.best.result _ _ (λ report over. inl (on_shelf _ _ _ _ _ (Reading E) _ _ (reads _ _ _ E _ _ c.best.ensures.same over))) c.best.ensures.report)
 
 pub returns-in-Weigh-clause-report : goal.returns-in-Weigh-clause-report
 returns-in-Weigh-clause-report g c = rw c.in-Weigh.is
     (let E = WeighEnds c.in-Weigh.recipe.now c.in-Weigh.set.now in
-    IfOk-weaker c.weigh.result _ _ (λ report over. on_shelf _ _ _ _ _ (Reading E) _ _ (reads _ _ _ E _ _ c.weigh.ensures.same over)) c.weigh.ensures.report)
+    IfOk-weaker c.weigh.result _ _ (λ report over. inl (on_shelf _ _ _ _ _ (Reading E) _ _ (reads _ _ _ E _ _ c.weigh.ensures.same over))) c.weigh.ensures.report)
+
+pub returns-in-Check-clause-report : goal.returns-in-Check-clause-report
+returns-in-Check-clause-report g c = rw c.in-Check.is
+    (let E = CheckEnds c.in-Check.recipe.now c.in-Check.certificate.now in
+    IfOk-weaker c.check.result _ _ (λ report ends. elim ends [
+      | inl over ↦ inl (on_shelf _ _ _ _ _ (Reading E) _ _ (reads _ _ _ E _ _ c.check.ensures.same over))
+      | inr hears ↦ inr (λ words asks. record { recipe = c.in-Check.recipe.now; certificate = c.in-Check.certificate.now; asks = asks; heard = hears })
+    ]) c.check.ensures.report)

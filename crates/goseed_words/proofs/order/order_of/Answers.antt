@@ -9,3 +9,7 @@ returns-in-best-clause-meaning c =
 pub returns-in-weigh-clause-meaning : goal.returns-in-weigh-clause-meaning
 returns-in-weigh-clause-meaning c =
     rw (command_words c.args.words.now c.in-Some.operands.now c.in-Some.command.now (codes "weigh") _ c.in-Some.ensures.cases.0 c.as_str.ensures.value c.in-weigh.is) c.weigh_of.ensures.meaning
+
+pub returns-in-check-clause-meaning : goal.returns-in-check-clause-meaning
+returns-in-check-clause-meaning c =
+    rw (command_words c.args.words.now c.in-Some.operands.now c.in-Some.command.now (codes "check") _ c.in-Some.ensures.cases.0 c.as_str.ensures.value c.in-check.is) c.check_of.ensures.meaning
