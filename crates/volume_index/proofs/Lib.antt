@@ -1,0 +1,17 @@
+pub mod Alls
+pub mod FileReads
+pub mod IndexReads
+pub mod Indexing
+pub mod Joins
+pub mod Keys
+pub mod Limits
+pub mod Lookups
+pub mod MapValues
+pub mod Marks
+pub mod Nothing
+pub mod Orders
+pub mod Ranks
+pub mod Sets
+pub mod Shapes
+pub mod TableReads
+pub mod Users
