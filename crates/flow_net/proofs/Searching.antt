@@ -19,11 +19,11 @@ pub record Searching (ps : List Pipe) (xs : List ℕ) (power : ℕ) (backward : 
   pub within :
       (s : ℕ → Bool) → IsClosed ps xs power backward s → s start ≡ true → (v : ℕ) → IsReached levels v → s v ≡ true
   pub done :
-      (j : ℕ) → j < head → (i : ℕ) (b : Bool) → i < length ps → start_of ps (use_of i b) ≡ get_or queue j 0 →
+      (j : ℕ) → j < head → get_or queue j 0 ≢ goal → (i : ℕ) (b : Bool) → i < length ps → start_of ps (use_of i b) ≡ get_or queue j 0 →
       power ≤ left_on ps xs (use_of i (turned backward b)) → IsReached levels (end_of ps (use_of i b))
 
 module _ (net : NetValue) (adjacency : Adjacency) (xs : List ℕ) (power : ℕ) (backward : Bool) (start goal : ℕ) (levels queue : List ℕ) (count head : ℕ)
-    (few : net.nodes < unreached) (are : IsAdjacency net adjacency) (state : Searching net.pipes xs power backward start goal net.nodes levels queue count head) (h : head < count) (missed : level_of levels goal ≡ unreached)
+    (few : net.nodes < unreached) (are : IsAdjacency net adjacency) (state : Searching net.pipes xs power backward start goal net.nodes levels queue count head) (h : head < count) (aside : get_or queue head 0 ≢ goal)
     (levels2 queue2 : List ℕ) (count2 : ℕ)
     (is2 : IsQueue net.nodes levels2 queue2 count2)
     (spreads : Spreads (IsNext net.pipes xs power backward (row_of adjacency (get_or queue head 0)) (length (row_of adjacency (get_or queue head 0)))) (level_of levels (get_or queue head 0)) levels levels2 queue queue2 count count2)
@@ -61,10 +61,7 @@ module _ (net : NetValue) (adjacency : Adjacency) (xs : List ℕ) (power : ℕ) 
               known = at.known;
               ends = at.far ∙ able.0.2;
               left = able.0.3;
-              apart =
-                  λ e.
-                  let same : level_of levels node ≡ level_of levels goal = ap (λ n. level_of levels n) (sym at.near ∙ e) in
-                  absurd (omega (arith, same, node_reached, missed));
+              apart = λ e. aside (sym at.near ∙ e);
               lower = ap (λ n. level_of levels2 n + 1) at.near ∙ (ap (λ n. n + 1) (spreads.kept node node_reached) ∙ sym able.1);
             }
       ]
@@ -105,26 +102,54 @@ module _ (net : NetValue) (adjacency : Adjacency) (xs : List ℕ) (power : ℕ) 
         parents = parent;
         within = inside;
         done =
-            λ j l i b m at left.
+            λ j l other i b m at left.
             elim (cases_lt j head) as (λ _. IsReached levels2 (end_of net.pipes (use_of i b))) [
               | inl old ↦
                   keep (end_of net.pipes (use_of i b))
-                  (state.done j old i b m (at ∙ spreads.queue j (omega arith)) left)
+                  (state.done j old (λ e. other (spreads.queue j (omega arith) ∙ e)) i b m (at ∙ spreads.queue j (omega arith)) left)
               | inr now ↦
                   let same : j ≡ head = omega arith in
                   done_here i b m (at ∙ (spreads.queue j (omega arith) ∙ ap (λ n. get_or queue n 0) same)) left
             ];
       }
 
--- a search whose queue is done reached a closed set
+-- the goal at the head of the queue is left aside
+pub search_passes :
+    (ps : List Pipe) (xs : List ℕ) (power : ℕ) (backward : Bool) (start goal nodes : ℕ) (levels queue : List ℕ) (count head : ℕ) →
+    Searching ps xs power backward start goal nodes levels queue count head → head < count → get_or queue head 0 ≡ goal →
+    Searching ps xs power backward start goal nodes levels queue count (head + 1)
+search_passes ps xs power backward start goal nodes levels queue count head state h is =
+    record {
+      queue_is = state.queue_is;
+      head_in = omega (arith, h);
+      begin = state.begin;
+      parents = state.parents;
+      within = state.within;
+      done =
+          λ j l other i b m at left.
+          elim (cases_lt j head) as (λ _. IsReached levels (end_of ps (use_of i b))) [
+            | inl old ↦ state.done j old other i b m at left
+            | inr now ↦
+                let same : j ≡ head = omega arith in
+                absurd (other (ap (λ n. get_or queue n 0) same ∙ is))
+          ];
+    }
+
+-- a search whose queue is done and which missed its goal reached a closed set
 pub searched_closed :
     (ps : List Pipe) (xs : List ℕ) (power : ℕ) (backward : Bool) (start goal nodes : ℕ) (levels queue : List ℕ) (count head : ℕ) →
-    Searching ps xs power backward start goal nodes levels queue count head → count ≤ head → IsClosed ps xs power backward (reached levels)
-searched_closed ps xs power backward start goal nodes levels queue count head state all i b l left at =
+    Searching ps xs power backward start goal nodes levels queue count head → count ≤ head → level_of levels goal ≡ unreached →
+    IsClosed ps xs power backward (reached levels)
+searched_closed ps xs power backward start goal nodes levels queue count head state all missed i b l left at =
     let v = start_of ps (use_of i b) in
     let w = end_of ps (use_of i b) in
-    let found = state.queue_is.listed v (ltb-true (level_of levels v) unreached at) in
-    let e = state.done found.0 (let f = found.1 in omega (arith, f, all)) i b l (sym found.2) left in
+    let r = ltb-true (level_of levels v) unreached at in
+    let found = state.queue_is.listed v r in
+    let other : get_or queue found.0 0 ≢ goal =
+    λ e.
+    let same : level_of levels v ≡ level_of levels goal = ap (λ n. level_of levels n) (sym found.2 ∙ e) in
+    absurd (omega (arith, same, missed, r)) in
+    let e = state.done found.0 (let f = found.1 in omega (arith, f, all)) other i b l (sym found.2) left in
     lt-ltb (level_of levels w) unreached e
 
 -- no level is as high as the number of nodes
@@ -165,7 +190,7 @@ searched_missed ps xs power backward start goal nodes levels queue count head st
       within = state.within;
       goal_reached = λ e. absurd (cc e);
       goal_missed = λ _. missed;
-      closed = λ _. searched_closed ps xs power backward start goal nodes levels queue count head state all;
+      closed = λ _. searched_closed ps xs power backward start goal nodes levels queue count head state all missed;
     }
 
 all_unreached : (xs : List ℕ) → ((v : ℕ) → get_or xs v unreached ≡ unreached) → count_by is_unreached xs ≡ length xs

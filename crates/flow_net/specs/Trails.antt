@@ -1,7 +1,8 @@
-use Rattle.std.specs.Prelude.{◌≡◌, ◌≢◌, ℕ, ◌+◌, ◌<◌, ◌≤◌, false, not, List, [], ◌∷◌, length, slice_index, slice_index_or}
+use Rattle.std.specs.Prelude.{◌≡◌, ◌≢◌, ℕ, ◌+◌, ◌<◌, ◌≤◌, false, not, List, [], ◌∷◌, length, drop, slice_index, slice_index_or}
 use Rattle.flow_net.specs.declared.pipes.Pipe.{Pipe}
 use Rattle.flow_net.specs.declared.pipes.Use.{Use}
 use Rattle.flow_net.specs.declared.links.Link.{Link}
+use Rattle.flow_net.specs.Nets.{NetValue}
 use Rattle.flow_net.specs.Paths.{use_of, left_on, end_of, IsPath, HaveLeft}
 use Rattle.flow_net.specs.Links.{Adjacency, link_at, row_of}
 use Rattle.flow_net.specs.Levels.{level_of, IsReached}
@@ -21,6 +22,23 @@ pub record IsTrail (pipes : List Pipe) (amounts : List ℕ) (power : ℕ) (level
   pub leads : IsPath pipes from to path
   pub rises : Rises pipes levels (level_of levels from) path
   pub left : HaveLeft pipes amounts power path
+
+-- a walk back from the sink has come to a node, by a trail at the end of the path
+pub record IsWalk (net : NetValue) (amounts : List ℕ) (power : ℕ) (levels : List ℕ) (sink : ℕ) (path : List Use) (node : ℕ) : Type 0 where
+  pub known : node < net.nodes
+  pub low : level_of levels node ≤ length path
+  pub trail : IsTrail net.pipes amounts power levels node sink (drop (level_of levels node) path)
+
+-- each node has a level, and the source alone has level 0
+pub record IsLevelled (nodes source : ℕ) (levels : List ℕ) : Type 0 where
+  pub each : length levels ≡ nodes
+  pub begin : level_of levels source ≡ 0
+  pub only : (v : ℕ) → v < nodes → level_of levels v ≡ 0 → v ≡ source
+
+-- a node alone has got another level, which is not 0
+pub record IsLifted (node : ℕ) (old new : List ℕ) : Type 0 where
+  pub above : 1 ≤ level_of new node
+  pub others : (v : ℕ) → v ≢ node → level_of new v ≡ level_of old v
 
 -- no pointer is past the end of its row
 abbrev pub AreBounded : ℕ → Adjacency → List ℕ → Type 0

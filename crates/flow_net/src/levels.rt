@@ -76,9 +76,8 @@ fn spread(
     filled
 }
 
-/// Searches by breadth from the source over links with enough left, up to the level at which the sink is reached. It
-/// says whether the sink was reached. The sink's own links are not followed. A search back from the sink takes the
-/// problem with source and sink changed over.
+/// Searches by breadth from the source over links with enough left, and says whether the sink was reached. The sink's
+/// own links are not followed. A search back from the sink takes the problem with source and sink changed over.
 pub(crate) fn search(
     problem: &Problem,
     sought: &Sought,
@@ -100,13 +99,12 @@ pub(crate) fn search(
     let mut head = 0;
     while head < count {
         let node = queue[head];
-        let level = levels[node as usize];
-        let row = problem.adjacency.list(node);
-        count = spread(pipes, sought, row, level, levels, queue, count);
         head += 1;
-        if levels[problem.sink as usize] != UNREACHED {
-            return true;
+        if node != problem.sink {
+            let level = levels[node as usize];
+            let row = problem.adjacency.list(node);
+            count = spread(pipes, sought, row, level, levels, queue, count);
         }
     }
-    false
+    levels[problem.sink as usize] != UNREACHED
 }

@@ -12,7 +12,7 @@ use crate::network::Net;
 use crate::pipes::{Pipe, Use};
 use crate::problem::Problem;
 use crate::run::Run;
-use crate::trails::find_path;
+use crate::trails::{find_path, lift};
 use std::sync::ledger::Ledger;
 
 /// The most that every use of a path can carry.
@@ -73,7 +73,8 @@ fn find_levels(problem: &Problem, power: u128, run: &mut Run) -> bool
     search(problem, &sought, &mut scratch.levels, &mut scratch.queue)
 }
 
-/// Pushes along paths of the levels until none is left or the pushes reach the limit.
+/// Pushes along paths of rising levels until none is left, the work is used up or the pushes reach the limit. A path
+/// ends at the level of the sink, which is lifted where no path ends there.
 fn phase<L: Ledger>(problem: &Problem, power: u128, limit: u64, run: &mut Run, steps: &mut Steps<L>)
     requires run { IsRun problem.now run.old }
     requires levels { HasLevels problem.now power run.old true }
@@ -85,22 +86,27 @@ fn phase<L: Ledger>(problem: &Problem, power: u128, limit: u64, run: &mut Run, s
     ensures upto { run.new.filling.pushes ≤ limit }
 {
     let filling = &mut run.filling;
-    let levels: &[u32] = &run.scratch.levels;
+    let levels: &mut [u32] = &mut run.scratch.levels;
     let next: &mut [u32] = &mut run.scratch.next;
     let path: &mut [Use] = &mut run.scratch.path;
-    let depth = levels[problem.sink as usize] as usize;
+    let mut work = problem.net.pipes().len() as u64 + 1;
     rewind(next);
-    'paths: while filling.pushes() < limit {
+    'paths: while filling.pushes() < limit && work > 0 {
+        let depth = levels[problem.sink as usize] as usize;
+        if depth > path.len() {
+            return;
+        }
         let path = &mut path[..depth];
         let sought = Sought {
             filling,
             power,
             backward: false,
         };
-        if !find_path(problem, &sought, levels, next, path) {
-            return;
+        if find_path(problem, &sought, levels, next, path, &mut work) {
+            push_path(problem.net, path, filling, steps);
+        } else if work > 0 {
+            lift(problem, &sought, levels, next, problem.sink, &mut work);
         }
-        push_path(problem.net, path, filling, steps);
     }
 }
 

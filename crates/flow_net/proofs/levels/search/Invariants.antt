@@ -1,15 +1,13 @@
-use Rattle.std.proofs.Common.{◌≡◌, ◌-◌, length, get_or}
-use Rattle.flow_net.specs.Levels.{unreached}
+use Rattle.std.proofs.Common.{◌≡◌, ◌-◌, length}
 use Rattle.flow_net.proofs.Searching.{Searching}
 use Rattle.flow_net.proofs.levels.search.Given as goal
 
--- the nodes before the head are done, and the goal is not reached yet
+-- the nodes before the head are done
 abbrev pub invariant-loop-head : goal.invariant-loop-head
 invariant-loop-head l =
     record {
       state : Searching l.problem.net.now.pipes l.sought.filling.now.amounts l.sought.power l.sought.backward l.problem.source l.problem.sink l.problem.net.now.nodes l.levels l.queue l.count l.head;
       sized : length l.levels ≡ l.problem.net.now.nodes;
-      missed : get_or l.levels l.problem.sink unreached ≡ unreached;
     }
 
 abbrev pub decreases-loop-head : goal.decreases-loop-head

@@ -1,18 +1,19 @@
-use Rattle.std.proofs.Common.{◌*◌, length}
-use Rattle.flow_net.specs.Levels.{level_of}
-use Rattle.flow_net.specs.Trails.{HaveWays}
-use Rattle.flow_net.proofs.Trailing.{Trailing, to_try}
+use Rattle.std.proofs.Common.{◌≤◌}
+use Rattle.flow_net.specs.Trails.{IsLevelled, IsWalk, AreBounded, HaveWays}
 use Rattle.flow_net.proofs.trails.find_path.Given as goal
 
--- a trail leads from the node to the sink, and no way was lost
-abbrev pub invariant-loop-node : goal.invariant-loop-node
-invariant-loop-node l =
+-- a trail leads from the node to the sink, and where each node had a way there was no work yet
+abbrev pub invariant-loop-work : goal.invariant-loop-work
+invariant-loop-work l =
     record {
-      state : Trailing l.problem.net.now l.problem.adjacency.now l.sought.filling.now.amounts l.sought.power l.levels l.problem.sink l.next l.path l.node;
+      levels : IsLevelled l.problem.net.now.nodes l.problem.source l.levels;
+      bounded : AreBounded l.problem.net.now.nodes l.problem.adjacency.now l.next;
+      walk : IsWalk l.problem.net.now l.sought.filling.now.amounts l.sought.power l.levels l.problem.sink l.path l.node;
+      less : l.work ≤ l.fn.work;
       ways :
-          HaveWays l.problem.net.now.pipes l.sought.filling.now.amounts l.sought.power l.levels l.problem.adjacency.now l.problem.net.now.nodes l.problem.source l.fn.next →
-          HaveWays l.problem.net.now.pipes l.sought.filling.now.amounts l.sought.power l.levels l.problem.adjacency.now l.problem.net.now.nodes l.problem.source l.next;
+          HaveWays l.problem.net.now.pipes l.sought.filling.now.amounts l.sought.power l.fn.levels l.problem.adjacency.now l.problem.net.now.nodes l.problem.source l.fn.next →
+          (1 ≤ l.work) × HaveWays l.problem.net.now.pipes l.sought.filling.now.amounts l.sought.power l.levels l.problem.adjacency.now l.problem.net.now.nodes l.problem.source l.next;
     }
 
-abbrev pub decreases-loop-node : goal.decreases-loop-node
-decreases-loop-node l = to_try (2 * length l.problem.net.now.pipes) l.next (length l.path) (level_of l.levels l.node)
+abbrev pub decreases-loop-work : goal.decreases-loop-work
+decreases-loop-work l = l.work
