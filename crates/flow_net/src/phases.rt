@@ -73,8 +73,8 @@ fn find_levels(problem: &Problem, power: u128, run: &mut Run) -> bool
     search(problem, &sought, &mut scratch.levels, &mut scratch.queue)
 }
 
-/// Pushes along paths of rising levels until none is left, the work is used up or the pushes reach the limit. A path
-/// ends at the level of the sink, which is lifted where no path ends there.
+/// Pushes along paths of rising levels until the sink is lifted out of reach, the pushes reach the limit, or the work is
+/// used up, which is a step for each two pipes. The sink is lifted where no path ends at its level.
 fn phase<L: Ledger>(problem: &Problem, power: u128, limit: u64, run: &mut Run, steps: &mut Steps<L>)
     requires run { IsRun problem.now run.old }
     requires levels { HasLevels problem.now power run.old true }
@@ -89,7 +89,7 @@ fn phase<L: Ledger>(problem: &Problem, power: u128, limit: u64, run: &mut Run, s
     let levels: &mut [u32] = &mut run.scratch.levels;
     let next: &mut [u32] = &mut run.scratch.next;
     let path: &mut [Use] = &mut run.scratch.path;
-    let mut work = problem.net.pipes().len() as u64 + 1;
+    let mut work = problem.net.pipes().len() as u64 / 2 + 1;
     rewind(next);
     'paths: while filling.pushes() < limit && work > 0 {
         let depth = levels[problem.sink as usize] as usize;

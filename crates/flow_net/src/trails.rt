@@ -82,8 +82,8 @@ fn level_above(pipes: &[Pipe], sought: &Sought, levels: &[u32], row: &[Link]) ->
     least.saturating_add(1)
 }
 
-/// Lifts a node one level above the least from which it can be reached, and puts its pointer back. Each link of its row
-/// is a step of the work.
+/// Lifts a node one level above the least from which it can be reached, and puts its pointer back. This is one step of
+/// the work, and one more for each eight links of its row.
 pub(crate) fn lift(
     problem: &Problem,
     sought: &Sought,
@@ -106,7 +106,7 @@ pub(crate) fn lift(
     let row = problem.adjacency.list(node);
     levels[node as usize] = level_above(problem.net.pipes(), sought, levels, row);
     next[node as usize] = 0;
-    *work = work.saturating_sub(row.len() as u64 + 1);
+    *work = work.saturating_sub(row.len() as u64 / 8 + 1);
 }
 
 /// Walks from a node back towards the source along falling levels, and answers where the walk ends: at the source, or at
