@@ -9,6 +9,7 @@ mod Leads
 mod Loads
 mod Lowest
 mod Members
+mod OneSlope
 mod Reading
 mod Relaxing
 mod Seeking

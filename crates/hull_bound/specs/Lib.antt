@@ -1,6 +1,7 @@
 pub mod Answers
 pub mod Corners
 pub mod Forms
+pub mod Laws
 pub mod Minima
 pub mod Relaxations
 pub mod Slots

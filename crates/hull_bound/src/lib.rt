@@ -4,6 +4,7 @@
 
 pub mod answer;
 mod gives;
+pub mod laws;
 mod minima;
 pub mod multipliers;
 mod node_net;
@@ -13,6 +14,7 @@ pub mod value;
 
 pub use answer::NodeAnswer;
 pub use bound_cert::{Give, Gives, Multipliers};
+pub use laws::relaxation_laws;
 pub use multipliers::multipliers_at;
 pub use relaxation::solve_node;
 pub use seed_model::{Mix, Node};
