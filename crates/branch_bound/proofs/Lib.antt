@@ -1,0 +1,24 @@
+pub mod Trees
+pub mod Stores
+pub mod Heaps
+pub mod Values
+pub mod Steps
+pub mod Climbs
+pub mod Bounds
+pub mod Endings
+pub mod Documents
+pub mod Visited
+pub mod Relaxed
+pub mod Free
+pub mod LineLists
+pub mod Searched
+pub mod Certified
+mod Examples
+pub mod Branching
+pub mod Running
+pub mod Keeping
+pub mod Ready
+pub mod Assembled
+pub mod EachLines
+pub mod Streaming
+pub mod Planned

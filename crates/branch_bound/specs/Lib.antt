@@ -1,0 +1,14 @@
+pub mod Outcomes
+pub mod Pinned
+pub mod Streams
+pub mod Fractions
+pub mod Orders
+pub mod OrderLaws
+pub mod Entries
+pub mod SearchTrees
+pub mod States
+pub mod Cuts
+pub mod Written
+pub mod Visits
+pub mod Ended
+pub mod Founds
