@@ -4,13 +4,17 @@ use Rattle.std.specs.Prelude.{◌⊎◌}
 use Rattle.seed_io.specs.Shelf.{Told}
 use Rattle.command_texts.specs.declared.status.Status.{Status}
 use Rattle.command_texts.specs.Refusals.{Refuses, Refusal}
-use Rattle.command_endings.specs.Laws.{IsDetermined}
+use Rattle.command_endings.specs.Laws.{IsDetermined, IsSameEndWith, IsOneText}
 use Rattle.command_endings.specs.Worlds.{ShelfEnding, Reading, Creating, OnShelf}
 use Rattle.command_endings.proofs.WorldLemmas.{same_name}
 
+-- one status, and texts that have this in common
+abbrev pub IsSameWith : (List ℕ → List ℕ → Type 0) → Status → Status → List ℕ → List ℕ → Type 0
+IsSameWith SameText one other text told = (one ≡ other) × SameText text told
+
 -- one status and one text
 abbrev pub IsSame : Status → Status → List ℕ → List ℕ → Type 0
-IsSame one other text told = (one ≡ other) × (text ≡ told)
+IsSame = IsSameWith IsOneText
 
 -- one refusal
 pub record IsRefused (one other : Status) (text told : List ℕ) : Type 0 where
@@ -27,32 +31,33 @@ same_refused one other text told r = (r.first.answers ∙ sym r.second.answers, 
 pub same_refusal : (refusal : Refusal) (one other : Status) (text told : List ℕ) → Refuses refusal one text → Refuses refusal other told → IsSame one other text told
 same_refusal refusal one other text told p q = (p.answers ∙ sym q.answers, p.prints ∙ sym q.prints)
 
--- one status, one text, and one thing left behind each name
-pub record IsSameLeft (one other : Status) (text told : List ℕ) (left kept : Told) : Type 0 where
+-- one status, texts that have this in common, and one thing left behind each name
+pub record IsSameLeft (SameText : List ℕ → List ℕ → Type 0) (one other : Status) (text told : List ℕ) (left kept : Told) : Type 0 where
   pub statuses : one ≡ other
-  pub texts : text ≡ told
+  pub texts : SameText text told
   pub files : (name : List ℕ) → left name ≡ kept name
 
-abbrev pub IsDeterminedOn : ShelfEnding → Type 0
-IsDeterminedOn Ends = (found : Told) (one other : Status) (text told : List ℕ) (left kept : Told) → Ends found one text left → Ends found other told kept → IsSameLeft one other text told left kept
+abbrev pub IsDeterminedOn : (List ℕ → List ℕ → Type 0) → ShelfEnding → Type 0
+IsDeterminedOn SameText Ends = (found : Told) (one other : Status) (text told : List ℕ) (left kept : Told) → Ends found one text left → Ends found other told kept
+    → IsSameLeft SameText one other text told left kept
 
 -- a command of the shelf
-pub on_shelf_determined : (Ends : ShelfEnding) → IsDeterminedOn Ends → IsDetermined (OnShelf Ends)
-on_shelf_determined Ends same found one other text told left kept p q =
+pub on_shelf_determined : (SameText : List ℕ → List ℕ → Type 0) (Ends : ShelfEnding) → IsDeterminedOn SameText Ends → IsDetermined (IsSameEndWith SameText) (OnShelf Ends)
+on_shelf_determined SameText Ends same found one other text told left kept p q =
     let is = same found.files one other text told left.files kept.files p.ends q.ends in
     record { statuses = is.statuses; texts = is.texts; files = is.files; devices = λ dev within. p.same dev within ∙ sym (q.same dev within) }
 
 -- a command that changes nothing
-pub reading_determined : (P : Told → Status → List ℕ → Type 0)
-    → ((given : Told) (one other : Status) (text told : List ℕ) → P given one text → P given other told → IsSame one other text told) → IsDeterminedOn (Reading P)
-reading_determined P same found one other text told left kept p q =
+pub reading_determined : (SameText : List ℕ → List ℕ → Type 0) (P : Told → Status → List ℕ → Type 0)
+    → ((given : Told) (one other : Status) (text told : List ℕ) → P given one text → P given other told → IsSameWith SameText one other text told) → IsDeterminedOn SameText (Reading P)
+reading_determined SameText P same found one other text told left kept p q =
     let is = same found one other text told p.ends q.ends in
     record { statuses = is.0; texts = is.1; files = λ name. p.same name ∙ sym (q.same name) }
 
 -- a command that creates a name
 pub creating_determined : (name : List ℕ) (P : Told → Status → List ℕ → Option (List ℕ) → Type 0)
     → ((given : Told) (one other : Status) (text told : List ℕ) (left kept : Option (List ℕ)) → P given one text left → P given other told kept
-    → IsRefused one other text told ⊎ (IsSame one other text told × (left ≡ kept))) → IsDeterminedOn (Creating name P)
+    → IsRefused one other text told ⊎ (IsSame one other text told × (left ≡ kept))) → IsDeterminedOn IsOneText (Creating name P)
 creating_determined name P same found one other text told left kept p q = elim (same found one other text told (left name) (kept name) p.ends q.ends) [
   | inl r ↦ let is = same_refused one other text told r in record {
     statuses = is.0;

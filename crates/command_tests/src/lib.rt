@@ -6,6 +6,8 @@ mod checks;
 #[cfg(test)]
 mod creating;
 #[cfg(test)]
+mod relaxed;
+#[cfg(test)]
 mod run;
 #[cfg(test)]
 mod words;

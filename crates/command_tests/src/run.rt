@@ -38,7 +38,7 @@ fn ends(
 }
 
 /// Each command ends so: its words, the recipe's text, the status, and what it prints.
-fn all_end(
+pub(crate) fn all_end(
     rt: &impl Abort,
     alloc: Global,
     cases: &[(&str, &str, Status, &str)],
@@ -96,7 +96,7 @@ fn rows_are_read_in_any_form(rt: HostRuntime) -> Result<(), Fail> {
 }
 
 /// Each command of these words over one recipe is refused with this number, and prints this.
-fn all_refused(
+pub(crate) fn all_refused(
     rt: &impl Abort,
     alloc: Global,
     lines: &[&str],
@@ -223,7 +223,7 @@ fn weighs_the_most_bytes(rt: HostRuntime) -> Result<(), Fail> {
 }
 
 /// Whether a command is stopped where these calls of the shelf and of the sink fail, and nothing is printed.
-fn stops(
+pub(crate) fn stops(
     alloc: Global,
     words: &str,
     shelf_fails: &[u64],

@@ -6,24 +6,24 @@ use Rattle.goseed_words.specs.declared.order.Order.{Order}
 use Rattle.goseed_words.specs.declared.order.WordError.{WordError}
 use Rattle.goseed_words.specs.declared.order.WordError.TheVariants as word
 use Rattle.goseed_words.specs.Asked.{Asked}
-use Rattle.goseed_words.specs.Commands.{Command, Best, Weigh, Check}
+use Rattle.goseed_words.specs.Commands.{Command, Best, Weigh, Check, Relax}
 use Rattle.goseed_words.specs.Orders.{Means, asked_of, IsSameMeaning, OneMeaning}
 use Rattle.command_texts.specs.declared.status.Status.{Status}
 use Rattle.command_texts.specs.declared.status.Status.TheVariants.{Done, No, Refused, Outside, Memory}
 use Rattle.command_texts.specs.Refusals.{Refuses}
-use Rattle.command_endings.specs.Laws.{IsSameEnd, IsLawfulCommand}
+use Rattle.command_endings.specs.Laws.{IsDetermined, IsLawfulCommand, IsOneText}
 use Rattle.command_endings.specs.Worlds.{World, Seen, OverWorld, EndsOver}
 use Rattle.command_endings.proofs.DeterminedLemmas.{same_refusal, on_shelf_determined, reading_determined}
 use Rattle.command_endings.proofs.WorldLemmas.{over_weaker}
 use Rattle.planning_commands.specs.Causes.{PlanningCause}
 use Rattle.planning_commands.specs.Check.{HearsCheck}
-use Rattle.planning_commands.specs.Endings.{best_ends, weigh_ends, check_ends}
+use Rattle.planning_commands.specs.Endings.{best_common, best_ends, weigh_common, weigh_ends, check_common, check_ends, relax_common, relax_ends}
 use Rattle.goseed_top.specs.Causes.{Cause, CauseOver, Words, Planning, WordCause, Usage, BadWord}
-use Rattle.goseed_top.specs.Determined.{OneEnding}
+use Rattle.goseed_top.specs.Determined.{OneEnding, MeaningCommon, command_common}
 use Rattle.goseed_top.specs.Endings.{Answers, AskedEnds, Ends, MeaningEnds, command_ends, no_order}
 
 -- a command of the crate of plans
-planning : (command : Command) → IsLawfulCommand PlanningCause command (command_ends command) → IsLawfulCommand Cause command (command_ends command)
+planning : (command : Command) → IsLawfulCommand PlanningCause command (command_ends command) (command_common command) → IsLawfulCommand Cause command (command_ends command) (command_common command)
 planning command law = record {
   determined = law.determined;
   caused = λ words values asks found left status text ends. Planning (law.caused words values asks found left status text ends);
@@ -60,26 +60,31 @@ heard_ends tells map recipe name status text heard = elim heard.rest [
   ]
 ]
 
-module _ (best : IsLawfulCommand PlanningCause Best best_ends) (weigh : IsLawfulCommand PlanningCause Weigh weigh_ends) (check : IsLawfulCommand PlanningCause Check check_ends) where
+module _ (best : IsLawfulCommand PlanningCause Best best_ends best_common) (weigh : IsLawfulCommand PlanningCause Weigh weigh_ends weigh_common)
+    (check : IsLawfulCommand PlanningCause Check check_ends check_common) (relax : IsLawfulCommand PlanningCause Relax relax_ends relax_common) where
   -- each command
-  command_lawful : (command : Command) → IsLawfulCommand Cause command (command_ends command)
+  command_lawful : (command : Command) → IsLawfulCommand Cause command (command_ends command) (command_common command)
   command_lawful Best = planning Best best
   command_lawful Weigh = planning Weigh weigh
   command_lawful Check = planning Check check
+  command_lawful Relax = planning Relax relax
 
-  meaning_determined : (a b : Result Order WordError) → IsSameMeaning a b → (found : World) (one other : Status) (text told : List ℕ) (left kept : World)
-      → MeaningEnds a found one text left → MeaningEnds b found other told kept → IsSameEnd one other text told left kept
-  meaning_determined (Ok a) (Ok b) same found one other text told left kept p q =
-      (command_lawful (asked_of b).command).determined (asked_of b).values found one other text told left kept (subst (λ (asked : Asked). AskedEnds asked found one text left) same p) q
-  meaning_determined (Err a) (Err b) same found one other text told left kept p q =
-      on_shelf_determined _ (reading_determined (λ given. Refuses (no_order b)) (λ given o t x y c d. same_refusal (no_order b) o t x y c d)) found one other text told left kept
-      (subst (λ (error : WordError). MeaningEnds (Err error) found one text left) same p) q
-  meaning_determined (Ok a) (Err b) same found one other text told left kept p q = absurd same
-  meaning_determined (Err a) (Ok b) same found one other text told left kept p q = absurd same
+  -- how words end by one meaning, they end by each
+  same_ends : (a b : Result Order WordError) → IsSameMeaning a b → (found : World) (status : Status) (text : List ℕ) (left : World) → MeaningEnds a found status text left → MeaningEnds b found status text left
+  same_ends (Ok a) (Ok b) same found status text left e = subst (λ (asked : Asked). AskedEnds asked found status text left) same e
+  same_ends (Err a) (Err b) same found status text left e = subst (λ (error : WordError). MeaningEnds (Err error) found status text left) same e
+  same_ends (Ok a) (Err b) same found status text left e = absurd same
+  same_ends (Err a) (Ok b) same found status text left e = absurd same
+
+  meaning_determined : (meaning : Result Order WordError) → IsDetermined (MeaningCommon meaning) (MeaningEnds meaning)
+  meaning_determined (Ok order) = (command_lawful (asked_of order).command).determined (asked_of order).values
+  meaning_determined (Err error) =
+      on_shelf_determined IsOneText _ (reading_determined IsOneText (λ given. Refuses (no_order error)) (λ given o t x y c d. same_refusal (no_order error) o t x y c d))
 
   pub one_ending : OneMeaning → OneEnding
-  one_ending one_meaning words found one other text told left kept p q =
-      meaning_determined p.meaning q.meaning (one_meaning words p.meaning q.meaning p.means q.means) found one other text told left kept p.ends q.ends
+  one_ending one_meaning words meaning means found one other text told left kept p q =
+      meaning_determined meaning found one other text told left kept (same_ends p.meaning meaning (one_meaning words p.meaning meaning p.means means) found one text left p.ends)
+      (same_ends q.meaning meaning (one_meaning words q.meaning meaning q.means means) found other told kept q.ends)
 
   by_meaning : (words : List (List ℕ)) (found left : World) (status : Status) (text : List ℕ) (meaning : Result Order WordError) → Means words meaning
       → MeaningEnds meaning found status text left → Cause found words status

@@ -1,8 +1,30 @@
 -- Words and what a command finds determine how it ends.
-use Rattle.std.specs.Prelude.{ℕ, List}
-use Rattle.command_endings.specs.Laws.{IsDetermined}
+use Rattle.std.specs.Prelude.{ℕ, List, Result, Ok, Err}
+use Rattle.goseed_words.specs.declared.order.Order.{Order}
+use Rattle.goseed_words.specs.declared.order.WordError.{WordError}
+use Rattle.goseed_words.specs.Commands.{Command, Best, Weigh, Check, Relax, row}
+use Rattle.goseed_words.specs.Asked.{Asked, Takes}
+use Rattle.goseed_words.specs.Orders.{Means, asked_of}
+use Rattle.command_endings.specs.Laws.{Common, IsSameEnd, IsDetermined, common_with}
+use Rattle.planning_commands.specs.Endings.{best_common, weigh_common, check_common, relax_common}
 use Rattle.goseed_top.specs.Endings.{Ends}
 
--- a command with these words ends in one way over what it finds
+-- what two ends of each command have in common: one status and one text, but for `relax`, of which a text with a value is
+-- determined as far as the value
+abbrev pub command_common : (command : Command) → Takes (row command).operands Common
+command_common Best = best_common
+command_common Weigh = weigh_common
+command_common Check = check_common
+command_common Relax = relax_common
+
+abbrev pub AskedCommon : Asked → Common
+AskedCommon asked = common_with asked.command (command_common asked.command) asked.values
+
+-- the same of words that mean this: words that mean no order have one status and one text
+abbrev pub MeaningCommon : Result Order WordError → Common
+MeaningCommon (Ok order) = AskedCommon (asked_of order)
+MeaningCommon (Err error) = IsSameEnd
+
+-- whatever a command with these words finds, two of its ends have this in common
 abbrev pub OneEnding : Type 0
-OneEnding = (words : List (List ℕ)) → IsDetermined (Ends words)
+OneEnding = (words : List (List ℕ)) (meaning : Result Order WordError) → Means words meaning → IsDetermined (MeaningCommon meaning) (Ends words)

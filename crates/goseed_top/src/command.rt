@@ -14,6 +14,7 @@ use goseed_words::{Order, WordError, order_of, word_laws};
 use planning_commands::best::best;
 use planning_commands::check::check;
 use planning_commands::planning_laws;
+use planning_commands::relax::relax;
 use planning_commands::weigh::weigh;
 use seed_io::{Shelf, Sink, SinkError};
 use std::alloc::Global;
@@ -131,5 +132,12 @@ fn report_of_order<F: Shelf, R: Rack>(
             recipe,
             certificate,
         } => check(alloc, shelf, recipe, certificate),
+        Order::Relax {
+            recipe,
+            target,
+            slack,
+            inside,
+            outside,
+        } => relax(alloc, shelf, recipe, target, slack, inside, outside),
     }
 }

@@ -5,7 +5,8 @@ use goseed_words::word_laws;
 use planning_commands::planning_laws;
 
 /// How a command ends is determined: over the same byte strings by name and the same devices the same words have one
-/// status and one text, and leave one thing.
+/// status and one text, and leave one thing. Of a text of `relax` with a value, the value is determined: more than one slope
+/// and mix may fit.
 pub fn ending_laws()
     ensures { OneEnding }
 {

@@ -9,7 +9,7 @@ use Rattle.goseed_words.specs.declared.amount.Amount.TheVariants.{Bytes, Percent
 use Rattle.goseed_words.specs.declared.order.WordError.{WordError}
 use Rattle.goseed_words.specs.declared.order.WordError.TheVariants.{Usage, BadWord}
 use Rattle.goseed_words.specs.Amounts.{SpellsAmount}
-use Rattle.goseed_words.specs.Commands.{Form, Kind, Reads, Creates, ASet, AnAmount, ANumber, Value, Says, Command, Best, Weigh, Check, row}
+use Rattle.goseed_words.specs.Commands.{Form, Kind, Reads, Creates, ASet, AnAmount, ANumber, Value, Says, Command, Best, Weigh, Check, Relax, row}
 use Rattle.goseed_words.specs.Asked.{Values, Asked, SayAll, Asks, HasOperand, Fits, IsFirstBad}
 use Rattle.goseed_words.specs.Orders.{asked_of, IsWordFault, OneMeaning}
 use Rattle.goseed_words.proofs.AmountLemmas.{no_percent}
@@ -20,6 +20,7 @@ named name =
     if bytes_eq name (row Best).name then Some Best
     else if bytes_eq name (row Weigh).name then Some Weigh
     else if bytes_eq name (row Check).name then Some Check
+    else if bytes_eq name (row Relax).name then Some Relax
     else None
 
 -- it is the command: names are apart
@@ -28,6 +29,7 @@ unfolding named
 found Best = refl
 found Weigh = refl
 found Check = refl
+found Relax = refl
 
 one_command : (a b : Command) → (row a).name ≡ (row b).name → a ≡ b
 one_command a b same = cc (sym (found a) ∙ (ap named same ∙ found b))

@@ -52,6 +52,7 @@ pub data Command : Type 0 where
   Best : Command
   Weigh : Command
   Check : Command
+  Relax : Command
 
 -- a command's name and operands, and whether it uses the site
 pub record Row : Type 0 where
@@ -63,3 +64,4 @@ abbrev pub row : Command → Row
 row Best = record { name = codes "best"; operands = Reads Recipe ∷ AnAmount ∷ AnAmount ∷ []; uses_site = false }
 row Weigh = record { name = codes "weigh"; operands = Reads Recipe ∷ ASet ∷ []; uses_site = false }
 row Check = record { name = codes "check"; operands = Reads Recipe ∷ Reads Certificate ∷ []; uses_site = false }
+row Relax = record { name = codes "relax"; operands = Reads Recipe ∷ AnAmount ∷ AnAmount ∷ ASet ∷ ASet ∷ []; uses_site = false }

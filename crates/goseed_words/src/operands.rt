@@ -23,3 +23,20 @@ pub(crate) fn three<'w>(words: &'w [String]) -> Option<(&'w str, &'w str, &'w st
     };
     Some((first.as_str(), second.as_str(), third.as_str()))
 }
+
+/// The words, where they are five.
+pub(crate) fn five<'w>(words: &'w [String]) -> Option<(&'w str, &'w str, &'w str, &'w str, &'w str)>
+    ensures found { IfSome result (λ five. texts words.now ≡ five.0.now ∷ five.1.now ∷ five.2.now ∷ five.3.now ∷ five.4.now ∷ []) }
+    ensures none { IfNone result (length words.now ≢ 5) }
+{
+    let [first, second, third, fourth, fifth] = words else {
+        return None;
+    };
+    Some((
+        first.as_str(),
+        second.as_str(),
+        third.as_str(),
+        fourth.as_str(),
+        fifth.as_str(),
+    ))
+}

@@ -6,7 +6,7 @@ ghost use Rattle.goseed_words.specs.Orders.{asked_of, texts, Means};
 ghost use Rattle.seed_text.specs.SetWords.{IsSetWord};
 
 use crate::amount::{Amount, amount_of};
-use crate::operands::{three, two};
+use crate::operands::{five, three, two};
 use seed_text::is_set_word;
 
 /// Why words mean no order.
@@ -37,6 +37,14 @@ pub enum Order<'w> {
         recipe: &'w str,
         certificate: &'w str,
     },
+    /// Find the least bytes that a weighted mean of the sets of a node of a recipe replicates.
+    Relax {
+        recipe: &'w str,
+        target: Amount,
+        slack: Amount,
+        inside: &'w str,
+        outside: &'w str,
+    },
 }
 
 /// The order that words mean, the first word being the command. It takes no memory.
@@ -51,6 +59,7 @@ pub fn order_of<'w>(words: &'w [String]) -> Result<Order<'w>, WordError>
         "best" => best_of(operands),
         "weigh" => weigh_of(operands),
         "check" => check_of(operands),
+        "relax" => relax_of(operands),
         _ => Err(WordError::Usage),
     }
 }
@@ -95,6 +104,27 @@ fn check_of<'w>(operands: &'w [String]) -> Result<Order<'w>, WordError>
     Ok(Order::Check {
         recipe,
         certificate,
+    })
+}
+
+/// The order `relax` with these operands. Which nodes a recipe has, its text tells.
+fn relax_of<'w>(operands: &'w [String]) -> Result<Order<'w>, WordError>
+    ensures meaning { Means (codes "relax" ∷ texts operands.now) result }
+    ensures lawful { IfOk result (λ order. IsLawful (asked_of order)) }
+{
+    let Some((recipe, target, slack, inside, outside)) = five(operands) else {
+        return Err(WordError::Usage);
+    };
+    let target = amount_at(3, target)?;
+    let slack = amount_at(4, slack)?;
+    let inside = set_at(5, inside)?;
+    let outside = set_at(6, outside)?;
+    Ok(Order::Relax {
+        recipe,
+        target,
+        slack,
+        inside,
+        outside,
     })
 }
 

@@ -7,7 +7,7 @@ use Rattle.recipe_reader.specs.Recipes.{RecipeValue}
 use Rattle.seed_io.specs.Shelf.{Told}
 use Rattle.goseed_words.specs.declared.amount.Amount.{Amount}
 use Rattle.goseed_words.specs.Asked.{Asks, AsksToRead, Values}
-use Rattle.goseed_words.specs.Commands.{Recipe, Certificate, Reads, ASet, AnAmount, Best, Weigh, Check, row}
+use Rattle.goseed_words.specs.Commands.{Recipe, Certificate, Reads, ASet, AnAmount, Best, Weigh, Check, Relax, row}
 use Rattle.goseed_words.proofs.OperandLemmas.{first_read, second_read}
 use Rattle.command_texts.specs.declared.status.Status.{Status}
 use Rattle.command_texts.specs.Refusals.{not_there, too_long, no_recipe, bad_word, too_many_files}
@@ -17,8 +17,10 @@ use Rattle.planning_commands.specs.Causes.{PlanningCause, NotThere, TooLong, NoR
 use Rattle.planning_commands.specs.Reading.{HoldsRecipe, RecipeEnds}
 use Rattle.planning_commands.specs.Weigh.{WeighEnds, WeighOf, AsksWeigh}
 use Rattle.planning_commands.specs.Check.{CheckEnds, judged_table}
+use Rattle.planning_commands.specs.Relax.{RelaxEnds}
 use Rattle.planning_commands.proofs.CheckLemmas.{check_cause}
 use Rattle.planning_commands.proofs.Refusing.{by_refusal}
+use Rattle.planning_commands.proofs.RelaxLemmas.{relax_cause}
 
 -- a command that reads the recipe of a name has the cause of its status, where one that got the recipe has it
 recipe_cause : (found : World) (words : List (List ℕ)) (name : List ℕ) (status : Status) (text : List ℕ) (Rest : RecipeValue → Type 0) → AsksToRead words Recipe name
@@ -74,3 +76,11 @@ check_caused sound sums lawful words values asks found status text e =
     recipe_cause found words values.0 status text _
     (record { asked = record { command = Check; values = values }; asks = asks; reads = first_read Recipe (Reads Certificate ∷ []) asks.fits.operands values asks.say })
     (λ recipe held rest. check_cause sound sums found words recipe values.1.0 status text (lawful found.files values.0 recipe held) (record { read = values.0; asks = asks; held = held }) reads rest) e
+
+pub relax_caused : (words : List (List ℕ)) (values : Values (row Relax).operands) → Asks words (record { command = Relax; values = values })
+    → (found : World) (status : Status) (text : List ℕ) → RelaxEnds values.0 values.1.0 values.1.1.0 values.1.1.1.0 values.1.1.1.1.0 found.files status text → PlanningCause found words status
+relax_caused words values asks found status text e =
+    recipe_cause found words values.0 status text _
+    (record { asked = record { command = Relax; values = values }; asks = asks; reads = first_read Recipe (AnAmount ∷ AnAmount ∷ ASet ∷ ASet ∷ []) asks.fits.operands values asks.say })
+    (λ recipe held rest. relax_cause found words recipe values.1.0 values.1.1.0 values.1.1.1.0 values.1.1.1.1.0 status text
+    (record { name = values.0; target = values.1.0; slack = values.1.1.0; asks = asks; held = held }) rest) e

@@ -13,22 +13,24 @@ use Rattle.recipe_reader.specs.declared.error.RecipeError.{RecipeError}
 use Rattle.recipe_reader.specs.Recipes.{RecipeValue, empty_recipe, table_of}
 use Rattle.recipe_reader.specs.Reading.{Leads, IsFirstFault}
 use Rattle.goseed_words.specs.declared.amount.Amount.{Amount}
-use Rattle.goseed_words.specs.Commands.{Recipe, Best, Weigh, Check}
+use Rattle.goseed_words.specs.Commands.{Recipe, Best, Weigh, Check, Relax}
 use Rattle.command_texts.specs.declared.status.Status.{Status}
 use Rattle.command_texts.specs.Refusals.{Refuses, bad_word, not_there, too_long, no_recipe, too_many_files}
-use Rattle.command_endings.specs.Laws.{IsLawfulCommand}
+use Rattle.command_endings.specs.Laws.{IsLawfulCommand, IsOneText}
 use Rattle.command_endings.specs.Reading.{most_bytes}
 use Rattle.command_endings.proofs.DeterminedLemmas.{IsSame, IsRefused, refused, same_refused, same_refusal, on_shelf_determined, reading_determined}
 use Rattle.planning_commands.specs.Best.{BestEnds, BestOf, PrintsBest, PrintsNone, range_in}
 use Rattle.planning_commands.specs.Causes.{PlanningCause}
 use Rattle.planning_commands.specs.Check.{CheckEnds, judged_table}
-use Rattle.planning_commands.specs.Endings.{best_ends, weigh_ends, check_ends}
+use Rattle.planning_commands.specs.Endings.{best_common, best_ends, weigh_common, weigh_ends, check_common, check_ends, relax_common, relax_ends}
 use Rattle.planning_commands.specs.Reading.{LacksRecipe, HoldsRecipe, RecipeEnds}
+use Rattle.planning_commands.specs.Relax.{RelaxEnds, IsOneValue}
 use Rattle.planning_commands.specs.Texts.{best_text, weigh_text}
 use Rattle.planning_commands.specs.Weigh.{WeighEnds, WeighOf}
-use Rattle.planning_commands.proofs.CauseLemmas.{best_caused, weigh_caused, check_caused}
+use Rattle.planning_commands.proofs.CauseLemmas.{best_caused, weigh_caused, check_caused, relax_caused}
 use Rattle.planning_commands.proofs.CheckLemmas.{same_check}
 use Rattle.planning_commands.proofs.PlanLemmas.{same_plan}
+use Rattle.planning_commands.proofs.RelaxLemmas.{same_relax}
 
 same_best : (recipe : RecipeValue) (target slack : Amount) (one other : Status) (text told : List ℕ) → BestOf target slack one text recipe → BestOf target slack other told recipe
     → IsSame one other text told
@@ -103,27 +105,35 @@ module _ (one_spelling : OneSpelling)
       let recipes = one_recipe (rows_of q.held.bytes) p.recipe q.recipe lawful q.held.lawful in
       rest q.recipe (subst (λ (r : RecipeValue). First r) recipes p.rest) q.rest
 
-  pub best_lawful : IsLawfulCommand PlanningCause Best best_ends
+  pub best_lawful : IsLawfulCommand PlanningCause Best best_ends best_common
   best_lawful = record {
-    determined = λ values. on_shelf_determined _ (reading_determined (BestEnds values.0 values.1.0 values.1.1.0)
+    determined = λ values. on_shelf_determined IsOneText _ (reading_determined IsOneText (BestEnds values.0 values.1.0 values.1.1.0)
         (λ given one other text told p q. same_reading given values.0 _ _ one other text told (same_refused one other text told)
         (λ recipe a b. same_best recipe values.1.0 values.1.1.0 one other text told a b) p q));
     caused = λ words values asks found left status text e. best_caused words values asks found status text e.ends.ends;
   }
 
-  pub weigh_lawful : IsLawfulCommand PlanningCause Weigh weigh_ends
+  pub weigh_lawful : IsLawfulCommand PlanningCause Weigh weigh_ends weigh_common
   weigh_lawful = record {
-    determined = λ values. on_shelf_determined _ (reading_determined (WeighEnds values.0 values.1.0)
+    determined = λ values. on_shelf_determined IsOneText _ (reading_determined IsOneText (WeighEnds values.0 values.1.0)
         (λ given one other text told p q. same_reading given values.0 _ _ one other text told (same_refused one other text told)
         (λ recipe a b. same_weigh recipe values.1.0 one other text told a b) p q));
     caused = λ words values asks found left status text e. weigh_caused words values asks found status text e.ends.ends;
   }
 
   pub check_lawful : ValidIsSo → KeepsSums → OneFailure → RunsOnUnfailed → FailureIsNotValid → OneDocument
-      → ((given : Told) (name : List ℕ) (recipe : RecipeValue) → HoldsRecipe given name recipe → IsTable (judged_table recipe)) → IsLawfulCommand PlanningCause Check check_ends
+      → ((given : Told) (name : List ℕ) (recipe : RecipeValue) → HoldsRecipe given name recipe → IsTable (judged_table recipe)) → IsLawfulCommand PlanningCause Check check_ends check_common
   check_lawful sound sums one_failure unfailed failed one_document lawful = record {
-    determined = λ values. on_shelf_determined _ (reading_determined (CheckEnds values.0 values.1.0)
+    determined = λ values. on_shelf_determined IsOneText _ (reading_determined IsOneText (CheckEnds values.0 values.1.0)
         (λ given one other text told p q. same_reading given values.0 _ _ one other text told (same_refused one other text told)
         (λ recipe a b. same_check one_failure unfailed failed one_document given values.1.0 recipe one other text told a b) p q));
     caused = λ words values asks found left status text e. check_caused sound sums lawful words values asks found status text e.ends.ends;
+  }
+
+  pub relax_lawful : IsLawfulCommand PlanningCause Relax relax_ends relax_common
+  relax_lawful = record {
+    determined = λ values. on_shelf_determined IsOneValue _ (reading_determined IsOneValue (RelaxEnds values.0 values.1.0 values.1.1.0 values.1.1.1.0 values.1.1.1.1.0)
+        (λ given one other text told p q. same_reading given values.0 _ _ one other text told (λ r. let is = same_refused one other text told r in (is.0, inl is.1))
+        (λ recipe a b. same_relax one_spelling recipe values.1.0 values.1.1.0 values.1.1.1.0 values.1.1.1.1.0 one other text told a b) p q));
+    caused = λ words values asks found left status text e. relax_caused words values asks found status text e.ends.ends;
   }

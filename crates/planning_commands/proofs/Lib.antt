@@ -1,7 +1,9 @@
 pub mod CauseLemmas
 pub mod CheckLemmas
 pub mod DeterminedLemmas
+pub mod Fractions
 pub mod MadeCause
 pub mod PlanLemmas
 pub mod ReadingLemmas
+pub mod RelaxLemmas
 pub mod Refusing

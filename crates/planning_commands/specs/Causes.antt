@@ -9,6 +9,7 @@ use Rattle.command_endings.specs.Reading.{AsksForNone, AsksForMore}
 use Rattle.planning_commands.specs.Best.{HasBest, HasNone, HasMany}
 use Rattle.planning_commands.specs.Check.{HasCertificate, HasFailure}
 use Rattle.planning_commands.specs.Reading.{AsksForFault}
+use Rattle.planning_commands.specs.Relax.{HasNode, HasNoNode}
 use Rattle.planning_commands.specs.Weigh.{HasSet, HasNoSet}
 
 -- why a command is done
@@ -16,6 +17,7 @@ pub data DoneCause (given : Told) (words : List (List ℕ)) : Type 0 where
   BestDone : HasBest given words → DoneCause given words
   WeighDone : HasSet given words → DoneCause given words
   CheckDone : HasCertificate given words → DoneCause given words
+  RelaxDone : HasNode given words → DoneCause given words
 
 -- why its answer is no
 pub data NoCause (given : Told) (words : List (List ℕ)) : Type 0 where
@@ -28,6 +30,7 @@ pub data RefusalCause (given : Told) (words : List (List ℕ)) : ℕ → Type 0 
   TooLong : AsksForMore given words → RefusalCause given words 3
   NoRecipe : (error : RecipeError) → AsksForFault given words error → RefusalCause given words (no_recipe error).number
   NoSet : HasNoSet given words → RefusalCause given words 10
+  NoNode : HasNoNode given words → RefusalCause given words 10
   TooManyFiles : HasMany given words → RefusalCause given words 11
 
 -- the cause of a status; a command that was not stopped has no other

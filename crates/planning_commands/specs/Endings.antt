@@ -1,9 +1,11 @@
--- How each command on plans ends, by the values of its operands.
+-- How each command on plans ends, by the values of its operands, and what two ends over the same byte strings have in common.
 use Rattle.goseed_words.specs.Asked.{Takes}
-use Rattle.goseed_words.specs.Commands.{Best, Weigh, Check, row}
+use Rattle.goseed_words.specs.Commands.{Best, Weigh, Check, Relax, row}
+use Rattle.command_endings.specs.Laws.{Common, IsSameEnd, IsSameEndWith}
 use Rattle.command_endings.specs.Worlds.{Ending, Reading, OnShelf}
 use Rattle.planning_commands.specs.Best.{BestEnds}
 use Rattle.planning_commands.specs.Check.{CheckEnds}
+use Rattle.planning_commands.specs.Relax.{RelaxEnds, IsOneValue}
 use Rattle.planning_commands.specs.Weigh.{WeighEnds}
 
 abbrev pub best_ends : Takes (row Best).operands Ending
@@ -14,3 +16,20 @@ weigh_ends = λ recipe set. OnShelf (Reading (WeighEnds recipe set))
 
 abbrev pub check_ends : Takes (row Check).operands Ending
 check_ends = λ recipe certificate. OnShelf (Reading (CheckEnds recipe certificate))
+
+abbrev pub relax_ends : Takes (row Relax).operands Ending
+relax_ends = λ recipe target slack inside outside. OnShelf (Reading (RelaxEnds recipe target slack inside outside))
+
+-- one status and one text
+abbrev pub best_common : Takes (row Best).operands Common
+best_common = λ recipe target slack. IsSameEnd
+
+abbrev pub weigh_common : Takes (row Weigh).operands Common
+weigh_common = λ recipe set. IsSameEnd
+
+abbrev pub check_common : Takes (row Check).operands Common
+check_common = λ recipe certificate. IsSameEnd
+
+-- one status, and one text or one value
+abbrev pub relax_common : Takes (row Relax).operands Common
+relax_common = λ recipe target slack inside outside. IsSameEndWith IsOneValue

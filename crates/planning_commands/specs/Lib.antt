@@ -3,7 +3,9 @@ pub mod Causes
 pub mod Check
 pub mod Endings
 pub mod Findings
+pub mod Nodes
 pub mod Reading
+pub mod Relax
 pub mod Tables
 pub mod Texts
 pub mod Weigh

@@ -1,21 +1,22 @@
 // The command `best`.
 ghost use Rattle.std.specs.Prelude.{◌≡◌, ◌≤◌, length, IfOk};
-ghost use Rattle.seed_model.specs.Ranges.{range_around, IsRange};
+ghost use Rattle.seed_model.specs.Ranges.{IsRange};
 ghost use Rattle.fault_count.specs.Counts.{HasCause};
 ghost use Rattle.recipe_reader.specs.Lawful.{IsRecipe};
-ghost use Rattle.goseed_words.specs.Amounts.{IsAmount, amount_in};
+ghost use Rattle.goseed_words.specs.Amounts.{IsAmount};
 ghost use Rattle.planning_commands.specs.Best.{BestEnds, BestOf, TriesAll};
 ghost use Rattle.command_endings.specs.Worlds.{Over};
 
 use crate::best_text::{text_of_best, text_of_none};
 use crate::merged_table::merged_table;
+use crate::ranges::range_within;
 use crate::reading::recipe_named;
 use command_texts::{Halt, Refusal, Report, Status, or_halt, refused};
 use goseed_words::Amount;
 use recipe_reader::Recipe;
 use seed_io::Shelf;
-use seed_model::limits::{MOST_BYTES, MOST_TRIED_FILES};
-use seed_model::{NoMemory, Range, range_of, try_all};
+use seed_model::limits::MOST_TRIED_FILES;
+use seed_model::{NoMemory, Range, try_all};
 use std::alloc::Global;
 
 /// Reads a recipe by its name, and finds the best set of its files.
@@ -56,30 +57,6 @@ fn best_of(
     }
     let range = range_within(recipe.total(), target, slack);
     best_in_range(alloc, recipe, &range)
-}
-
-/// The range of a target and a slack, percents being those of a total.
-fn range_within(total: u64, target: Amount, slack: Amount) -> Range
-    requires total { total ≤ MOST_BYTES }
-    requires target { IsAmount target }
-    requires slack { IsAmount slack }
-    ensures range { result ≡ range_around (amount_in total target) (amount_in total slack) }
-    ensures lawful { IsRange result }
-{
-    range_of(bytes_in(total, target), bytes_in(total, slack))
-}
-
-/// The bytes that an amount means, of a total.
-fn bytes_in(total: u64, amount: Amount) -> u64
-    requires total { total ≤ MOST_BYTES }
-    requires amount { IsAmount amount }
-    ensures bytes { result ≡ amount_in total amount }
-    ensures most { result ≤ MOST_BYTES }
-{
-    match amount {
-        Amount::Bytes(bytes) => bytes,
-        Amount::Percent(percent) => total * percent as u64 / 100,
-    }
 }
 
 /// Finds the best set of a recipe's files in a range.

@@ -8,7 +8,11 @@ pub mod check;
 mod checked_text;
 pub mod laws;
 mod merged_table;
+mod node_words;
+mod ranges;
 mod reading;
+pub mod relax;
+mod relax_text;
 pub mod weigh;
 mod weigh_text;
 

@@ -4,6 +4,7 @@ use Rattle.command_endings.specs.Worlds.{Reading}
 use Rattle.command_endings.proofs.WorldLemmas.{reads, on_shelf}
 use Rattle.planning_commands.specs.Best.{BestEnds}
 use Rattle.planning_commands.specs.Check.{CheckEnds}
+use Rattle.planning_commands.specs.Relax.{RelaxEnds}
 use Rattle.planning_commands.specs.Weigh.{WeighEnds}
 use Rattle.goseed_top.proofs.command.report_of_order.Goals as goal
 
@@ -30,3 +31,14 @@ returns-in-Check-clause-report g c = rw c.in-Check.is
       | inl over ↦ inl (on_shelf _ _ _ _ _ (Reading E) _ _ (reads _ _ _ E _ _ c.check.ensures.same over))
       | inr hears ↦ inr (λ words asks. record { recipe = c.in-Check.recipe.now; certificate = c.in-Check.certificate.now; asks = asks; heard = hears })
     ]) c.check.ensures.report)
+
+pub relax-requires-clause-target : goal.relax-requires-clause-target
+relax-requires-clause-target g c = (rw c.in-Relax.is at c.requires).1.0
+
+pub relax-requires-clause-slack : goal.relax-requires-clause-slack
+relax-requires-clause-slack g c = (rw c.in-Relax.is at c.requires).1.1.0
+
+pub returns-in-Relax-clause-report : goal.returns-in-Relax-clause-report
+returns-in-Relax-clause-report g c = rw c.in-Relax.is
+    (let E = RelaxEnds c.in-Relax.recipe.now c.in-Relax.target c.in-Relax.slack c.in-Relax.inside.now c.in-Relax.outside.now in
+    IfOk-weaker c.relax.result _ _ (λ report over. inl (on_shelf _ _ _ _ _ (Reading E) _ _ (reads _ _ _ E _ _ c.relax.ensures.same over))) c.relax.ensures.report)

@@ -6,13 +6,13 @@ use Rattle.goseed_top.proofs.RunLemmas.{front_printed}
 use Rattle.goseed_top.proofs.command.run.Goals as goal
 
 pub returns-in-Ok-push-clause-cause : goal.returns-in-Ok-push-clause-cause
-returns-in-Ok-push-clause-cause g c = λ inside room. let laws = c.planning_laws.ensures in answers_cause laws.best laws.weigh laws.check _ _ _ _ _ c.in-Ok.ensures.report
+returns-in-Ok-push-clause-cause g c = λ inside room. let laws = c.planning_laws.ensures in answers_cause laws.best laws.weigh laws.check laws.relax _ _ _ _ _ c.in-Ok.ensures.report
 
 pub returns-in-Ok-push-clause-outside : goal.returns-in-Ok-push-clause-outside
-returns-in-Ok-push-clause-outside g c = λ is. let laws = c.planning_laws.ensures in absurd (not_stopped laws.best laws.weigh laws.check _ _ _ _ _ c.in-Ok.ensures.report (inl is))
+returns-in-Ok-push-clause-outside g c = λ is. let laws = c.planning_laws.ensures in absurd (not_stopped laws.best laws.weigh laws.check laws.relax _ _ _ _ _ c.in-Ok.ensures.report (inl is))
 
 pub returns-in-Ok-push-clause-part : goal.returns-in-Ok-push-clause-part
-returns-in-Ok-push-clause-part g c = λ told stopped. let laws = c.planning_laws.ensures in absurd (not_stopped laws.best laws.weigh laws.check _ _ _ _ _ c.in-Ok.ensures.report stopped)
+returns-in-Ok-push-clause-part g c = λ told stopped. let laws = c.planning_laws.ensures in absurd (not_stopped laws.best laws.weigh laws.check laws.relax _ _ _ _ _ c.in-Ok.ensures.report stopped)
 
 pub returns-in-Err-Fault-clause-part : goal.returns-in-Err-Fault-clause-part
 returns-in-Err-Fault-clause-part g c = λ told stopped.

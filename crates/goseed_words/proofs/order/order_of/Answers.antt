@@ -13,3 +13,7 @@ returns-in-weigh-clause-meaning c =
 pub returns-in-check-clause-meaning : goal.returns-in-check-clause-meaning
 returns-in-check-clause-meaning c =
     rw (command_words c.args.words.now c.in-Some.operands.now c.in-Some.command.now (codes "check") _ c.in-Some.ensures.cases.0 c.as_str.ensures.value c.in-check.is) c.check_of.ensures.meaning
+
+pub returns-in-relax-clause-meaning : goal.returns-in-relax-clause-meaning
+returns-in-relax-clause-meaning c =
+    rw (command_words c.args.words.now c.in-Some.operands.now c.in-Some.command.now (codes "relax") _ c.in-Some.ensures.cases.0 c.as_str.ensures.value c.in-relax.is) c.relax_of.ensures.meaning

@@ -1,7 +1,7 @@
 use Rattle.std.proofs.Common.{subst}
 use Rattle.seed_model.specs.Tables.{IsTable}
 use Rattle.recipe_reader.specs.Recipes.{table_of}
-use Rattle.planning_commands.proofs.DeterminedLemmas.{best_lawful, weigh_lawful, check_lawful}
+use Rattle.planning_commands.proofs.DeterminedLemmas.{best_lawful, weigh_lawful, check_lawful, relax_lawful}
 use Rattle.planning_commands.proofs.laws.planning_laws.Goals as goal
 
 pub returns-clause-best : goal.returns-clause-best
@@ -19,3 +19,6 @@ returns-clause-check c =
     (λ given name recipe held.
     let is = c.incidence_laws.ensures.recipes recipe (recipes.lawful _ recipe held.lawful) in
     merging.tables (table_of recipe) (subst IsTable is.1 is.0.table))
+
+pub returns-clause-relax : goal.returns-clause-relax
+returns-clause-relax c = let recipes = c.recipe_laws.ensures in relax_lawful c.set_text_laws.ensures.one_spelling recipes.one recipes.one_fault recipes.no_fault
