@@ -1,5 +1,5 @@
 // Nodes relaxed by the command `relax`.
-use crate::run::{SMALL, all_end, all_refused, stops};
+use crate::run::{SMALL, all_end, all_refused, ends, stops, with_largest_chunks};
 use goseed_top::Status;
 use std::test::Fail;
 
@@ -77,5 +77,15 @@ fn a_fault_ends_the_command_outside(rt: HostRuntime) -> Result<(), Fail> {
     assert!(rt; stops(rt.alloc(), words, &[1], &[])?);
     assert!(rt; stops(rt.alloc(), words, &[2], &[])?);
     assert!(rt; stops(rt.alloc(), words, &[], &[1])?);
+    Ok(())
+}
+
+#[test]
+fn a_node_at_the_edge_of_the_limits_is_relaxed(rt: HostRuntime) -> Result<(), Fail> {
+    let text = with_largest_chunks(rt.alloc(), "a,ff,1\nb,ff,1\n", "b", "b,00040000,262142\n")?;
+    let printed =
+        "value 1125899906842523 1125899906842623\nmultipliers 1125899906842622 1125899906842623\nmix 80 c0 1125899906842523 100\n";
+    let words = "relax|r.csv|100|0|80|00";
+    assert!(rt; ends(rt.alloc(), words, &text, &[], &[], (Status::Done, printed))?);
     Ok(())
 }

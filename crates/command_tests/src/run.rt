@@ -20,7 +20,7 @@ pub(crate) fn words_of(alloc: Global, line: &str) -> Result<Vec<String>, Fail> {
 }
 
 /// Whether a command of these words ends so and prints this over one recipe, with the calls that fail.
-fn ends(
+pub(crate) fn ends(
     alloc: Global,
     words: &str,
     recipe: &[u8],
@@ -190,20 +190,25 @@ fn weigh_prints_sums_and_classes(rt: HostRuntime) -> Result<(), Fail> {
     all_end(&rt, rt.alloc(), &cases)
 }
 
-/// The rows of 262,144 chunks of the greatest size and one of 262,143 bytes.
-fn largest_total(alloc: Global) -> Result<Vec<u8>, Fail> {
-    let mut text = Vec::new(alloc);
+/// The rows of a file's 262,144 chunks of the greatest size, between others.
+pub(crate) fn with_largest_chunks(
+    alloc: Global,
+    before: &str,
+    file: &str,
+    behind: &str,
+) -> Result<Vec<u8>, Fail> {
+    let mut text = Vec::from_slice(alloc, before.as_bytes())?;
     for chunk in 0..262_144u32 {
-        let row = format!(in alloc; "a,{chunk:08x},4294967295\n")?;
+        let row = format!(in alloc; "{file},{chunk:08x},4294967295\n")?;
         text.extend_from_slice(row.as_bytes())?;
     }
-    text.extend_from_slice(b"a,00040000,262143\n")?;
+    text.extend_from_slice(behind.as_bytes())?;
     Ok(text)
 }
 
 #[test]
 fn weighs_the_most_bytes(rt: HostRuntime) -> Result<(), Fail> {
-    let mut text = largest_total(rt.alloc())?;
+    let mut text = with_largest_chunks(rt.alloc(), "", "a", "a,00040000,262143\n")?;
     let most =
         "files 1\nchunks 262145\nclasses 1\ntotal 1125899906842623\ntouched 0\nmigrated 0\nreplicated 0\n";
     assert!(rt;
