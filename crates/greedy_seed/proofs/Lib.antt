@@ -1,0 +1,6 @@
+pub mod Bounds
+pub mod Choosing
+pub mod Flags
+pub mod Members
+pub mod Steps
+pub mod Tallies
