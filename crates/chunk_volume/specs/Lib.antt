@@ -1,0 +1,12 @@
+pub mod Adding
+pub mod AppendingRecords
+pub mod Errors
+pub mod Folding
+pub mod OpeningVolumes
+pub mod Pieces
+pub mod ReadingVolumes
+pub mod Room
+pub mod Spelled
+pub mod Standing
+pub mod VolumeInside
+pub mod VolumeValues
