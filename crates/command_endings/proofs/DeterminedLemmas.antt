@@ -1,12 +1,10 @@
 -- What a command finds determines how it ends, from what its bytes determine.
-use Rattle.std.proofs.Common.{◌≡◌, ◌∙◌, ℕ, List, Option, sym, inl, inr}
-use Rattle.std.specs.Prelude.{◌⊎◌}
+use Rattle.std.proofs.Common.{◌≡◌, ◌∙◌, ℕ, List, sym}
 use Rattle.seed_io.specs.Shelf.{Told}
 use Rattle.command_texts.specs.declared.status.Status.{Status}
 use Rattle.command_texts.specs.Refusals.{Refuses, Refusal}
 use Rattle.command_endings.specs.Laws.{IsDetermined, IsSameEndWith, IsOneText}
-use Rattle.command_endings.specs.Worlds.{ShelfEnding, Reading, Creating, OnShelf}
-use Rattle.command_endings.proofs.WorldLemmas.{same_name}
+use Rattle.command_endings.specs.Worlds.{ShelfEnding, Reading, OnShelf}
 
 -- one status, and texts that have this in common
 abbrev pub IsSameWith : (List ℕ → List ℕ → Type 0) → Status → Status → List ℕ → List ℕ → Type 0
@@ -53,22 +51,3 @@ pub reading_determined : (SameText : List ℕ → List ℕ → Type 0) (P : Told
 reading_determined SameText P same found one other text told left kept p q =
     let is = same found one other text told p.ends q.ends in
     record { statuses = is.0; texts = is.1; files = λ name. p.same name ∙ sym (q.same name) }
-
--- a command that creates a name
-pub creating_determined : (name : List ℕ) (P : Told → Status → List ℕ → Option (List ℕ) → Type 0)
-    → ((given : Told) (one other : Status) (text told : List ℕ) (left kept : Option (List ℕ)) → P given one text left → P given other told kept
-    → IsRefused one other text told ⊎ (IsSame one other text told × (left ≡ kept))) → IsDeterminedOn IsOneText (Creating name P)
-creating_determined name P same found one other text told left kept p q = elim (same found one other text told (left name) (kept name) p.ends q.ends) [
-  | inl r ↦ let is = same_refused one other text told r in record {
-    statuses = is.0;
-    texts = is.1;
-    files = each (p.refused r.refusal.number r.first.answers ∙ sym (q.refused r.refusal.number r.second.answers));
-  }
-  | inr is ↦ record { statuses = is.0.0; texts = is.0.1; files = each is.1 }
-]
-  where
-    each : left name ≡ kept name → (n : List ℕ) → left n ≡ kept n
-    each here n = elim (same_name n name) [
-      | inl at ↦ rw at here
-      | inr apart ↦ p.others n apart ∙ sym (q.others n apart)
-    ]

@@ -6,8 +6,12 @@ mod checks;
 #[cfg(test)]
 mod creating;
 #[cfg(test)]
+mod planned;
+#[cfg(test)]
 mod relaxed;
 #[cfg(test)]
 mod run;
+#[cfg(test)]
+mod short_shelf;
 #[cfg(test)]
 mod words;

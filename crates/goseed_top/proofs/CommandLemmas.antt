@@ -6,7 +6,7 @@ use Rattle.goseed_words.specs.declared.order.Order.{Order}
 use Rattle.goseed_words.specs.declared.order.WordError.{WordError}
 use Rattle.goseed_words.specs.declared.order.WordError.TheVariants as word
 use Rattle.goseed_words.specs.Asked.{Asked}
-use Rattle.goseed_words.specs.Commands.{Command, Best, Weigh, Check, Relax}
+use Rattle.goseed_words.specs.Commands.{Command, Best, Weigh, Check, Relax, Plan, Pinned}
 use Rattle.goseed_words.specs.Orders.{Means, asked_of, IsSameMeaning, OneMeaning}
 use Rattle.command_texts.specs.declared.status.Status.{Status}
 use Rattle.command_texts.specs.declared.status.Status.TheVariants.{Done, No, Refused, Outside, Memory}
@@ -17,7 +17,7 @@ use Rattle.command_endings.proofs.DeterminedLemmas.{same_refusal, on_shelf_deter
 use Rattle.command_endings.proofs.WorldLemmas.{over_weaker}
 use Rattle.planning_commands.specs.Causes.{PlanningCause}
 use Rattle.planning_commands.specs.Check.{HearsCheck}
-use Rattle.planning_commands.specs.Endings.{best_common, best_ends, weigh_common, weigh_ends, check_common, check_ends, relax_common, relax_ends}
+use Rattle.planning_commands.specs.Endings.{best_common, best_ends, weigh_common, weigh_ends, check_common, check_ends, relax_common, relax_ends, plan_common, plan_ends, pinned_common, pinned_ends}
 use Rattle.goseed_top.specs.Causes.{Cause, CauseOver, Words, Planning, WordCause, Usage, BadWord}
 use Rattle.goseed_top.specs.Determined.{OneEnding, MeaningCommon, command_common}
 use Rattle.goseed_top.specs.Endings.{Answers, AskedEnds, Ends, MeaningEnds, command_ends, no_order}
@@ -61,13 +61,16 @@ heard_ends tells map recipe name status text heard = elim heard.rest [
 ]
 
 module _ (best : IsLawfulCommand PlanningCause Best best_ends best_common) (weigh : IsLawfulCommand PlanningCause Weigh weigh_ends weigh_common)
-    (check : IsLawfulCommand PlanningCause Check check_ends check_common) (relax : IsLawfulCommand PlanningCause Relax relax_ends relax_common) where
+    (check : IsLawfulCommand PlanningCause Check check_ends check_common) (relax : IsLawfulCommand PlanningCause Relax relax_ends relax_common)
+    (plan : IsLawfulCommand PlanningCause Plan plan_ends plan_common) (pinned : IsLawfulCommand PlanningCause Pinned pinned_ends pinned_common) where
   -- each command
   command_lawful : (command : Command) → IsLawfulCommand Cause command (command_ends command) (command_common command)
   command_lawful Best = planning Best best
   command_lawful Weigh = planning Weigh weigh
   command_lawful Check = planning Check check
   command_lawful Relax = planning Relax relax
+  command_lawful Plan = planning Plan plan
+  command_lawful Pinned = planning Pinned pinned
 
   -- how words end by one meaning, they end by each
   same_ends : (a b : Result Order WordError) → IsSameMeaning a b → (found : World) (status : Status) (text : List ℕ) (left : World) → MeaningEnds a found status text left → MeaningEnds b found status text left

@@ -4,7 +4,7 @@ use Rattle.seed_io.specs.Shelf.{Told}
 use Rattle.goseed_words.specs.declared.order.Order.{Order}
 use Rattle.goseed_words.specs.declared.order.WordError.{WordError}
 use Rattle.goseed_words.specs.declared.order.WordError.TheVariants.{Usage, BadWord}
-use Rattle.goseed_words.specs.Commands.{Command, Best, Weigh, Check, Relax, row}
+use Rattle.goseed_words.specs.Commands.{Command, Best, Weigh, Check, Relax, Plan, Pinned, row}
 use Rattle.goseed_words.specs.Asked.{Asked, Asks, Takes, IsCreated, asking}
 use Rattle.goseed_words.specs.Orders.{Means, asked_of}
 use Rattle.command_texts.specs.declared.status.Status.{Status}
@@ -12,7 +12,7 @@ use Rattle.command_endings.specs.Laws.{ends_with}
 use Rattle.command_endings.specs.Worlds.{World, Ending, Reading, OnShelf, Seen, OverWorld, EndsOver}
 use Rattle.command_texts.specs.Refusals.{Refusal, Refuses, usage, bad_word}
 use Rattle.planning_commands.specs.Check.{HearsCheck}
-use Rattle.planning_commands.specs.Endings.{best_ends, weigh_ends, check_ends, relax_ends}
+use Rattle.planning_commands.specs.Endings.{best_ends, weigh_ends, check_ends, relax_ends, plan_ends, pinned_ends}
 
 -- how each command ends
 abbrev pub command_ends : (command : Command) → Takes (row command).operands Ending
@@ -20,6 +20,8 @@ command_ends Best = best_ends
 command_ends Weigh = weigh_ends
 command_ends Check = check_ends
 command_ends Relax = relax_ends
+command_ends Plan = plan_ends
+command_ends Pinned = pinned_ends
 
 -- how a command with its values ends
 abbrev pub AskedEnds : Asked → Ending

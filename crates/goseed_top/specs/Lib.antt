@@ -2,6 +2,7 @@ pub mod Causes
 pub mod Determined
 pub mod Endings
 pub mod Faults
+pub mod Planning
 pub use Rattle.goseed_words.specs.Amounts
 pub use Rattle.goseed_words.specs.Asked
 pub use Rattle.goseed_words.specs.Commands

@@ -8,11 +8,13 @@ ghost use Rattle.command_endings.specs.Worlds.{EndsOver, seen};
 ghost use Rattle.goseed_top.specs.Causes.{CauseOver};
 ghost use Rattle.goseed_top.specs.Endings.{Answers, AskedEnds, Hears, LeavesPart, Prints, PrintsPart};
 ghost use Rattle.goseed_top.specs.Faults.{HandsOnBoth, faults};
+ghost use Rattle.goseed_top.specs.Planning.{Plans};
 
 use command_texts::{Halt, Refusal, Report, Status, or_halt, refused};
 use goseed_words::{Order, WordError, order_of, word_laws};
 use planning_commands::best::best;
 use planning_commands::check::check;
+use planning_commands::plan::{Aim, pinned, plan};
 use planning_commands::planning_laws;
 use planning_commands::relax::relax;
 use planning_commands::weigh::weigh;
@@ -37,6 +39,11 @@ pub fn run<F: Shelf, K: Sink, R: Rack>(
     // Why it answered so.
     ensures cause { result ≢ Status.Outside → result ≢ Status.Memory
         → CauseOver (seen (F.tells shelf.old) (F.map shelf.old) (R.honest rack.old) (R.disk rack.old)) (texts words.now) result }
+
+    // The headline of planning: where the shelf tells its bytes, the status, the text and the bytes behind the certificate's name
+    // are one outcome of the search that the words ask for.
+    ensures planned { F.tells shelf.old ≡ true → result ≢ Status.Outside → result ≢ Status.Memory
+        → Plans (F.map shelf.old) (F.map shelf.new) (texts words.now) result (K.tells out.old) (K.taken out.old) (K.taken out.new) }
 
     // Why it was stopped: a call of the shelf, of the sink, or of the rack failed, or memory ran out.
     ensures outside { result ≡ Status.Outside → Rose (F.faults shelf.old) (F.faults shelf.new) ⊎ (Rose (K.faults out.old) (K.faults out.new) ⊎ (UsesSite (texts words.now) × Rose (R.faults rack.old) (R.faults rack.new))) }
@@ -139,5 +146,35 @@ fn report_of_order<F: Shelf, R: Rack>(
             inside,
             outside,
         } => relax(alloc, shelf, recipe, target, slack, inside, outside),
+        Order::Plan {
+            recipe,
+            document,
+            target,
+            slack,
+            nodes,
+        } => {
+            let aim = Aim {
+                target,
+                slack,
+                nodes,
+            };
+            plan(alloc, shelf, recipe, document, aim)
+        }
+        Order::Pinned {
+            recipe,
+            document,
+            target,
+            slack,
+            nodes,
+            go,
+            stay,
+        } => {
+            let aim = Aim {
+                target,
+                slack,
+                nodes,
+            };
+            pinned(alloc, shelf, recipe, document, aim, go, stay)
+        }
     }
 }

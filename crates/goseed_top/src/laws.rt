@@ -6,7 +6,7 @@ use planning_commands::planning_laws;
 
 /// How a command ends is determined: over the same byte strings by name and the same devices the same words have one
 /// status and one text, and leave one thing. Of a text of `relax` with a value, the value is determined: more than one slope
-/// and mix may fit.
+/// and mix may fit. Of a search it is determined which answers exclude one another and how many bytes a best plan replicates.
 pub fn ending_laws()
     ensures { OneEnding }
 {

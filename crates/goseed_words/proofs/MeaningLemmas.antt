@@ -9,7 +9,7 @@ use Rattle.goseed_words.specs.declared.amount.Amount.TheVariants.{Bytes, Percent
 use Rattle.goseed_words.specs.declared.order.WordError.{WordError}
 use Rattle.goseed_words.specs.declared.order.WordError.TheVariants.{Usage, BadWord}
 use Rattle.goseed_words.specs.Amounts.{SpellsAmount}
-use Rattle.goseed_words.specs.Commands.{Form, Kind, Reads, Creates, ASet, AnAmount, ANumber, Value, Says, Command, Best, Weigh, Check, Relax, row}
+use Rattle.goseed_words.specs.Commands.{Form, Kind, Reads, Creates, ASet, AnAmount, ANumber, Value, Says, Command, Best, Weigh, Check, Relax, Plan, Pinned, row}
 use Rattle.goseed_words.specs.Asked.{Values, Asked, SayAll, Asks, HasOperand, Fits, IsFirstBad}
 use Rattle.goseed_words.specs.Orders.{asked_of, IsWordFault, OneMeaning}
 use Rattle.goseed_words.proofs.AmountLemmas.{no_percent}
@@ -21,6 +21,8 @@ named name =
     else if bytes_eq name (row Weigh).name then Some Weigh
     else if bytes_eq name (row Check).name then Some Check
     else if bytes_eq name (row Relax).name then Some Relax
+    else if bytes_eq name (row Plan).name then Some Plan
+    else if bytes_eq name (row Pinned).name then Some Pinned
     else None
 
 -- it is the command: names are apart
@@ -30,6 +32,8 @@ found Best = refl
 found Weigh = refl
 found Check = refl
 found Relax = refl
+found Plan = refl
+found Pinned = refl
 
 one_command : (a b : Command) → (row a).name ≡ (row b).name → a ≡ b
 one_command a b same = cc (sym (found a) ∙ (ap named same ∙ found b))
@@ -98,7 +102,7 @@ one_bad (kind ∷ kinds) (word ∷ words) (suc k) (suc l) p q = ap suc (one_bad 
 one_bad [] words k l p q = absurd p
 one_bad (kind ∷ kinds) [] k l p q = absurd p
 
-asked_no_fault : (words : List (List ℕ)) (asked : Asked) (error : WordError) → Asks words asked → IsWordFault words error → ⊥
+pub asked_no_fault : (words : List (List ℕ)) (asked : Asked) (error : WordError) → Asks words asked → IsWordFault words error → ⊥
 asked_no_fault words asked Usage p fault = fault asked.command p.fits
 asked_no_fault words asked (BadWord place) p fault =
     of_row p.fits fault.fits (λ command operands. (k : ℕ) → IsFirstBad (row command).operands operands k → ⊥)

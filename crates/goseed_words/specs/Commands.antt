@@ -53,6 +53,8 @@ pub data Command : Type 0 where
   Weigh : Command
   Check : Command
   Relax : Command
+  Plan : Command
+  Pinned : Command
 
 -- a command's name and operands, and whether it uses the site
 pub record Row : Type 0 where
@@ -65,3 +67,5 @@ row Best = record { name = codes "best"; operands = Reads Recipe ∷ AnAmount �
 row Weigh = record { name = codes "weigh"; operands = Reads Recipe ∷ ASet ∷ []; uses_site = false }
 row Check = record { name = codes "check"; operands = Reads Recipe ∷ Reads Certificate ∷ []; uses_site = false }
 row Relax = record { name = codes "relax"; operands = Reads Recipe ∷ AnAmount ∷ AnAmount ∷ ASet ∷ ASet ∷ []; uses_site = false }
+row Plan = record { name = codes "plan"; operands = Reads Recipe ∷ Creates ∷ AnAmount ∷ AnAmount ∷ ANumber 65535 ∷ []; uses_site = false }
+row Pinned = record { name = codes "pinned"; operands = Reads Recipe ∷ Creates ∷ AnAmount ∷ AnAmount ∷ ANumber 65535 ∷ ASet ∷ ASet ∷ []; uses_site = false }

@@ -40,3 +40,34 @@ pub(crate) fn five<'w>(words: &'w [String]) -> Option<(&'w str, &'w str, &'w str
         fifth.as_str(),
     ))
 }
+
+/// The words, where they are seven.
+pub(crate) fn seven<'w>(
+    words: &'w [String],
+) -> Option<
+    (
+        &'w str,
+        &'w str,
+        &'w str,
+        &'w str,
+        &'w str,
+        &'w str,
+        &'w str,
+    ),
+>
+    ensures found { IfSome result (λ seven. texts words.now ≡ seven.0.now ∷ seven.1.now ∷ seven.2.now ∷ seven.3.now ∷ seven.4.now ∷ seven.5.now ∷ seven.6.now ∷ []) }
+    ensures none { IfNone result (length words.now ≢ 7) }
+{
+    let [first, second, third, fourth, fifth, sixth, seventh] = words else {
+        return None;
+    };
+    Some((
+        first.as_str(),
+        second.as_str(),
+        third.as_str(),
+        fourth.as_str(),
+        fifth.as_str(),
+        sixth.as_str(),
+        seventh.as_str(),
+    ))
+}

@@ -1,12 +1,14 @@
 // Orders, and why words mean none.
-ghost use Rattle.std.specs.Prelude.{◌≡◌, ◌∷◌, codes, IfOk, IfErr};
+ghost use Rattle.std.specs.Prelude.{◌≡◌, ◌∷◌, ℕ, codes, IfOk, IfErr};
 ghost use Rattle.goseed_words.specs.Amounts.{SpellsAmount};
 ghost use Rattle.goseed_words.specs.Asked.{IsLawful};
+ghost use Rattle.goseed_words.specs.Commands.{ANumber, Says};
 ghost use Rattle.goseed_words.specs.Orders.{asked_of, texts, Means};
 ghost use Rattle.seed_text.specs.SetWords.{IsSetWord};
 
 use crate::amount::{Amount, amount_of};
-use crate::operands::{five, three, two};
+use crate::operands::{five, seven, three, two};
+use seed_model::read_number;
 use seed_text::is_set_word;
 
 /// Why words mean no order.
@@ -45,7 +47,28 @@ pub enum Order<'w> {
         inside: &'w str,
         outside: &'w str,
     },
+    /// Search for a plan with at most so many branchings, and write the certificate.
+    Plan {
+        recipe: &'w str,
+        document: &'w str,
+        target: Amount,
+        slack: Amount,
+        nodes: u32,
+    },
+    /// The same with files that must go and files that must stay.
+    Pinned {
+        recipe: &'w str,
+        document: &'w str,
+        target: Amount,
+        slack: Amount,
+        nodes: u32,
+        go: &'w str,
+        stay: &'w str,
+    },
 }
+
+/// The most branchings of a search.
+const MOST_NODES: u32 = 65_535;
 
 /// The order that words mean, the first word being the command. It takes no memory.
 pub fn order_of<'w>(words: &'w [String]) -> Result<Order<'w>, WordError>
@@ -60,6 +83,8 @@ pub fn order_of<'w>(words: &'w [String]) -> Result<Order<'w>, WordError>
         "weigh" => weigh_of(operands),
         "check" => check_of(operands),
         "relax" => relax_of(operands),
+        "plan" => plan_of(operands),
+        "pinned" => pinned_of(operands),
         _ => Err(WordError::Usage),
     }
 }
@@ -126,6 +151,68 @@ fn relax_of<'w>(operands: &'w [String]) -> Result<Order<'w>, WordError>
         inside,
         outside,
     })
+}
+
+/// The order `plan` with these operands. A certificate is not written over its recipe.
+fn plan_of<'w>(operands: &'w [String]) -> Result<Order<'w>, WordError>
+    ensures meaning { Means (codes "plan" ∷ texts operands.now) result }
+    ensures lawful { IfOk result (λ order. IsLawful (asked_of order)) }
+{
+    let Some((recipe, document, target, slack, nodes)) = five(operands) else {
+        return Err(WordError::Usage);
+    };
+    if recipe == document {
+        return Err(WordError::Usage);
+    }
+    let target = amount_at(4, target)?;
+    let slack = amount_at(5, slack)?;
+    let nodes = number_at(6, nodes)?;
+    Ok(Order::Plan {
+        recipe,
+        document,
+        target,
+        slack,
+        nodes,
+    })
+}
+
+/// The order `pinned` with these operands. Which files a recipe has, its text tells.
+fn pinned_of<'w>(operands: &'w [String]) -> Result<Order<'w>, WordError>
+    ensures meaning { Means (codes "pinned" ∷ texts operands.now) result }
+    ensures lawful { IfOk result (λ order. IsLawful (asked_of order)) }
+{
+    let Some((recipe, document, target, slack, nodes, go, stay)) = seven(operands) else {
+        return Err(WordError::Usage);
+    };
+    if recipe == document {
+        return Err(WordError::Usage);
+    }
+    let target = amount_at(4, target)?;
+    let slack = amount_at(5, slack)?;
+    let nodes = number_at(6, nodes)?;
+    let go = set_at(7, go)?;
+    let stay = set_at(8, stay)?;
+    Ok(Order::Pinned {
+        recipe,
+        document,
+        target,
+        slack,
+        nodes,
+        go,
+        stay,
+    })
+}
+
+/// The number of branchings that the word at a place spells.
+fn number_at(place: u32, word: &str) -> Result<u32, WordError>
+    ensures found { IfOk result (λ number. Says (ANumber 65535) word.now number) }
+    ensures error { IfErr result (λ error. error ≡ WordError.BadWord place) }
+    ensures none { IfErr result (λ error. (number : ℕ) → ¬ Says (ANumber 65535) word.now number) }
+{
+    match read_number(word.as_bytes(), MOST_NODES as u128) {
+        Some(number) => Ok(number as u32),
+        None => Err(WordError::BadWord { place }),
+    }
 }
 
 /// The amount that the word at a place spells.

@@ -1,5 +1,5 @@
 -- How a command on plans ends has the cause of its status.
-use Rattle.std.proofs.Common.{◌∷◌, [], ℕ, List, sym, subst, inl, inr, length}
+use Rattle.std.proofs.Common.{◌∷◌, [], ℕ, List, Option, Some, None, refl, sym, subst, inl, inr, length}
 use Rattle.seed_model.specs.Tables.{IsTable}
 use Rattle.bound_cert.specs.Laws.{ValidIsSo}
 use Rattle.chunk_merge.specs.Merged.{KeepsSums}
@@ -7,20 +7,22 @@ use Rattle.recipe_reader.specs.Recipes.{RecipeValue}
 use Rattle.seed_io.specs.Shelf.{Told}
 use Rattle.goseed_words.specs.declared.amount.Amount.{Amount}
 use Rattle.goseed_words.specs.Asked.{Asks, AsksToRead, Values}
-use Rattle.goseed_words.specs.Commands.{Recipe, Certificate, Reads, ASet, AnAmount, Best, Weigh, Check, Relax, row}
+use Rattle.goseed_words.specs.Commands.{Recipe, Certificate, Reads, Creates, ASet, AnAmount, ANumber, Best, Weigh, Check, Relax, Plan, Pinned, row}
 use Rattle.goseed_words.proofs.OperandLemmas.{first_read, second_read}
 use Rattle.command_texts.specs.declared.status.Status.{Status}
 use Rattle.command_texts.specs.Refusals.{not_there, too_long, no_recipe, bad_word, too_many_files}
 use Rattle.command_endings.specs.Worlds.{World}
-use Rattle.planning_commands.specs.Best.{BestEnds, BestOf, AsksBest}
-use Rattle.planning_commands.specs.Causes.{PlanningCause, NotThere, TooLong, NoRecipe, NoSet, TooManyFiles, BestDone, BestNone, WeighDone}
+use Rattle.planning_commands.specs.Best.{BestEnds, BestOf, AsksBest, range_in}
+use Rattle.planning_commands.specs.Causes.{PlanningCause, NotThere, TooLong, NoRecipe, NoSet, NoPins, TooManyFiles, BestDone, BestNone, WeighDone}
 use Rattle.planning_commands.specs.Reading.{HoldsRecipe, RecipeEnds}
 use Rattle.planning_commands.specs.Weigh.{WeighEnds, WeighOf, AsksWeigh}
 use Rattle.planning_commands.specs.Check.{CheckEnds, judged_table}
+use Rattle.planning_commands.specs.Plan.{PlanEnds, PinnedEnds, PinnedOf}
 use Rattle.planning_commands.specs.Relax.{RelaxEnds}
 use Rattle.planning_commands.proofs.CheckLemmas.{check_cause}
 use Rattle.planning_commands.proofs.Refusing.{by_refusal}
 use Rattle.planning_commands.proofs.RelaxLemmas.{relax_cause}
+use Rattle.planning_commands.proofs.SearchCommon.{search_cause}
 
 -- a command that reads the recipe of a name has the cause of its status, where one that got the recipe has it
 recipe_cause : (found : World) (words : List (List ℕ)) (name : List ℕ) (status : Status) (text : List ℕ) (Rest : RecipeValue → Type 0) → AsksToRead words Recipe name
@@ -84,3 +86,51 @@ relax_caused words values asks found status text e =
     (record { asked = record { command = Relax; values = values }; asks = asks; reads = first_read Recipe (AnAmount ∷ AnAmount ∷ ASet ∷ ASet ∷ []) asks.fits.operands values asks.say })
     (λ recipe held rest. relax_cause found words recipe values.1.0 values.1.1.0 values.1.1.1.0 values.1.1.1.1.0 status text
     (record { name = values.0; target = values.1.0; slack = values.1.1.0; asks = asks; held = held }) rest) e
+
+pub plan_caused : KeepsSums → (words : List (List ℕ)) (values : Values (row Plan).operands) → Asks words (record { command = Plan; values = values })
+    → (found : World) (status : Status) (text : List ℕ) (now : Option (List ℕ)) → PlanEnds values.0 values.1.1.0 values.1.1.1.0 values.1.1.1.1.0 found.files status text now → PlanningCause found words status
+plan_caused sums words values asks found status text now e =
+    recipe_cause found words values.0 status text _
+    (record { asked = record { command = Plan; values = values }; asks = asks; reads = first_read Recipe (Creates ∷ AnAmount ∷ AnAmount ∷ ANumber 65535 ∷ []) asks.fits.operands values asks.say })
+    (λ recipe held rest. search_cause sums recipe (range_in recipe values.1.1.0 values.1.1.1.0) None values.1.1.1.1.0 found words values.1.0 status text now
+    (record { name = values.0; target = values.1.1.0; slack = values.1.1.1.0; asks = asks; held = held; range_is = refl }) rest) e
+
+pub pinned_caused : KeepsSums → (words : List (List ℕ)) (values : Values (row Pinned).operands) → Asks words (record { command = Pinned; values = values })
+    → (found : World) (status : Status) (text : List ℕ) (now : Option (List ℕ))
+    → PinnedEnds values.0 values.1.1.0 values.1.1.1.0 values.1.1.1.1.0 values.1.1.1.1.1.0 values.1.1.1.1.1.1.0 found.files status text now → PlanningCause found words status
+pinned_caused sums words values asks found status text now e =
+    recipe_cause found words values.0 status text _
+    (record { asked = record { command = Pinned; values = values }; asks = asks; reads = first_read Recipe (Creates ∷ AnAmount ∷ AnAmount ∷ ANumber 65535 ∷ ASet ∷ ASet ∷ []) asks.fits.operands values asks.say })
+    by_pins e
+  where
+    by_pins : (recipe : RecipeValue) → HoldsRecipe found.files values.0 recipe
+        → PinnedOf values.1.1.0 values.1.1.1.0 values.1.1.1.1.0 values.1.1.1.1.1.0 values.1.1.1.1.1.1.0 status text now recipe → PlanningCause found words status
+    by_pins recipe held (inl p) =
+        by_refusal found words (bad_word p.bad) status text p.refuses
+        (NoPins (record {
+          recipe = recipe;
+          name = values.0;
+          document = values.1.0;
+          target = values.1.1.0;
+          slack = values.1.1.1.0;
+          budget = values.1.1.1.1.0;
+          go = values.1.1.1.1.1.0;
+          stay = values.1.1.1.1.1.1.0;
+          asks = asks;
+          held = held;
+          bad = p.bad;
+          fault = p.fault;
+        }))
+    by_pins recipe held (inr p) =
+        search_cause sums recipe (range_in recipe values.1.1.0 values.1.1.1.0) (Some p.pins) values.1.1.1.1.0 found words values.1.0 status text now
+        (record {
+          name = values.0;
+          target = values.1.1.0;
+          slack = values.1.1.1.0;
+          go = values.1.1.1.1.1.0;
+          stay = values.1.1.1.1.1.1.0;
+          asks = asks;
+          held = held;
+          range_is = refl;
+          spells = p.spells;
+        }) p.searched

@@ -46,7 +46,7 @@ module _ (sums : KeepsSums) (table : TableValue) where
   migrated_same : (set : ℕ → Bool) → migrated_of set (merged table) ≡ migrated_of set table
   migrated_same set = sums table (list_all set)
 
-  replicated_same : (set : ℕ → Bool) → replicated_of set (merged table) ≡ replicated_of set table
+  pub replicated_same : (set : ℕ → Bool) → replicated_of set (merged table) ≡ replicated_of set table
   replicated_same set = sums table (λ users. list_any set users && not (list_all set users))
 
   by_chunks : (range : Range) (root : Node) (set : ℕ → Bool) → IsAdmitted (merged table) range root set → IsAdmitted table range root set
@@ -63,7 +63,7 @@ module _ (sums : KeepsSums) (table : TableValue) where
       let no_more = a.in_range.no_more in
       record { member = a.member; in_range = record { enough = omega (arith, same, enough); no_more = omega (arith, same, no_more) } }
 
-  says_by_chunks : (range : Range) (root : Node) (answer : Answer) (plan : Option (List Bool)) (bound : Option ℕ) → Says (merged table) range root answer plan bound → Says table range root answer plan bound
+  pub says_by_chunks : (range : Range) (root : Node) (answer : Answer) (plan : Option (List Bool)) (bound : Option ℕ) → Says (merged table) range root answer plan bound → Says table range root answer plan bound
   says_by_chunks range root Optimal (Some set) bound s = record {
     admitted = by_chunks range root (holds set) s.admitted;
     least = λ other a.

@@ -1,5 +1,5 @@
 -- What a command on plans finds determines how it ends.
-use Rattle.std.proofs.Common.{◌≡◌, ◌∙◌, ◌<◌, ◌≤◌, ℕ, List, Bool, Some, sym, ap, subst, inl, inr, length, arith}
+use Rattle.std.proofs.Common.{◌≡◌, ◌∙◌, ◌<◌, ◌≤◌, ℕ, List, Bool, Some, None, sym, ap, subst, inl, inr, length, arith}
 use Rattle.std.specs.Prelude.{◌⊎◌}
 use Rattle.csv_rows.specs.Rows.{rows_of}
 use Rattle.seed_io.specs.Shelf.{Told}
@@ -13,7 +13,7 @@ use Rattle.recipe_reader.specs.declared.error.RecipeError.{RecipeError}
 use Rattle.recipe_reader.specs.Recipes.{RecipeValue, empty_recipe, table_of}
 use Rattle.recipe_reader.specs.Reading.{Leads, IsFirstFault}
 use Rattle.goseed_words.specs.declared.amount.Amount.{Amount}
-use Rattle.goseed_words.specs.Commands.{Recipe, Best, Weigh, Check, Relax}
+use Rattle.goseed_words.specs.Commands.{Recipe, Best, Weigh, Check, Relax, Plan, Pinned}
 use Rattle.command_texts.specs.declared.status.Status.{Status}
 use Rattle.command_texts.specs.Refusals.{Refuses, bad_word, not_there, too_long, no_recipe, too_many_files}
 use Rattle.command_endings.specs.Laws.{IsLawfulCommand, IsOneText}
@@ -22,15 +22,18 @@ use Rattle.command_endings.proofs.DeterminedLemmas.{IsSame, IsRefused, refused, 
 use Rattle.planning_commands.specs.Best.{BestEnds, BestOf, PrintsBest, PrintsNone, range_in}
 use Rattle.planning_commands.specs.Causes.{PlanningCause}
 use Rattle.planning_commands.specs.Check.{CheckEnds, judged_table}
-use Rattle.planning_commands.specs.Endings.{best_common, best_ends, weigh_common, weigh_ends, check_common, check_ends, relax_common, relax_ends}
+use Rattle.planning_commands.specs.Endings.{best_common, best_ends, weigh_common, weigh_ends, check_common, check_ends, relax_common, relax_ends, plan_common, plan_ends, pinned_common, pinned_ends}
 use Rattle.planning_commands.specs.Reading.{LacksRecipe, HoldsRecipe, RecipeEnds}
+use Rattle.planning_commands.specs.Plan.{PlanEnds, PinnedEnds}
 use Rattle.planning_commands.specs.Relax.{RelaxEnds, IsOneValue}
 use Rattle.planning_commands.specs.Texts.{best_text, weigh_text}
 use Rattle.planning_commands.specs.Weigh.{WeighEnds, WeighOf}
-use Rattle.planning_commands.proofs.CauseLemmas.{best_caused, weigh_caused, check_caused, relax_caused}
+use Rattle.planning_commands.proofs.CauseLemmas.{best_caused, weigh_caused, check_caused, relax_caused, plan_caused, pinned_caused}
 use Rattle.planning_commands.proofs.CheckLemmas.{same_check}
 use Rattle.planning_commands.proofs.PlanLemmas.{same_plan}
-use Rattle.planning_commands.proofs.RelaxLemmas.{same_relax}
+use Rattle.planning_commands.specs.Laws.{GiveOne}
+use Rattle.planning_commands.proofs.RelaxLemmas.{not_bad, same_node, same_relax}
+use Rattle.planning_commands.proofs.SearchCommon.{creating_common, same_pinned, searches_agree}
 
 same_best : (recipe : RecipeValue) (target slack : Amount) (one other : Status) (text told : List ℕ) → BestOf target slack one text recipe → BestOf target slack other told recipe
     → IsSame one other text told
@@ -136,4 +139,30 @@ module _ (one_spelling : OneSpelling)
         (λ given one other text told p q. same_reading given values.0 _ _ one other text told (λ r. let is = same_refused one other text told r in (is.0, inl is.1))
         (λ recipe a b. same_relax one_spelling recipe values.1.0 values.1.1.0 values.1.1.1.0 values.1.1.1.1.0 one other text told a b) p q));
     caused = λ words values asks found left status text e. relax_caused words values asks found status text e.ends.ends;
+  }
+
+  pub plan_lawful : KeepsSums → IsLawfulCommand PlanningCause Plan plan_ends plan_common
+  plan_lawful sums = record {
+    determined = λ values. creating_common values.1.0 (PlanEnds values.0 values.1.1.0 values.1.1.1.0 values.1.1.1.1.0)
+        (λ given one other text told now kept p q. same_reading given values.0 _ _ one other text told inl
+        (λ recipe a b. inr (searches_agree sums recipe (range_in recipe values.1.1.0 values.1.1.1.0) None values.1.1.1.1.0 one other text told now kept a b)) p q);
+    caused = λ words values asks found left status text e. plan_caused sums words values asks found status text (left.files values.1.0) e.ends.ends;
+  }
+
+  pub pinned_lawful : KeepsSums → IsLawfulCommand PlanningCause Pinned pinned_ends pinned_common
+  pinned_lawful sums = record {
+    determined = λ values. creating_common values.1.0 (PinnedEnds values.0 values.1.1.0 values.1.1.1.0 values.1.1.1.1.0 values.1.1.1.1.1.0 values.1.1.1.1.1.1.0)
+        (λ given one other text told now kept p q. same_reading given values.0 _ _ one other text told inl
+        (λ recipe a b. same_pinned sums one_spelling recipe values.1.1.0 values.1.1.1.0 values.1.1.1.1.0 values.1.1.1.1.1.0 values.1.1.1.1.1.1.0 one other text told now kept a b) p q);
+    caused = λ words values asks found left status text e. pinned_caused sums words values asks found status text (left.files values.1.0) e.ends.ends;
+  }
+
+  pub give_one : GiveOne
+  give_one = record {
+    recipe = λ given name one other p q.
+        let bytes = same_bytes given name p.bytes q.bytes p.reads.held q.reads.held in
+        one_recipe (rows_of q.bytes) one other (subst (λ (t : List ℕ). Leads empty_recipe (rows_of t) one) bytes p.lawful) q.lawful;
+    lacking = λ given name recipe status text held lacks. not_both given name recipe status text held lacks;
+    node = λ files inside outside one other p q. same_node one_spelling files inside outside one other p q;
+    bad = λ files inside outside place bad node p q. not_bad one_spelling files inside outside place bad node p q;
   }

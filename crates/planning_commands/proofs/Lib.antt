@@ -6,4 +6,7 @@ pub mod MadeCause
 pub mod PlanLemmas
 pub mod ReadingLemmas
 pub mod RelaxLemmas
+pub mod SearchCommon
+pub mod SearchLemmas
+pub mod ShortCertificates
 pub mod Refusing

@@ -3,7 +3,9 @@ pub mod Causes
 pub mod Check
 pub mod Endings
 pub mod Findings
+pub mod Laws
 pub mod Nodes
+pub mod Plan
 pub mod Reading
 pub mod Relax
 pub mod Tables

@@ -53,7 +53,11 @@ fn text_of_valid(alloc: Global, recipe: &Recipe, checked: &Checked) -> Result<Ve
 }
 
 /// Puts the line of pins behind a text, if there are any.
-fn add_pins(alloc: Global, text: &mut Vec<u8>, pins: Option<&Node>) -> Result<(), NoMemory>
+pub(crate) fn add_pins(
+    alloc: Global,
+    text: &mut Vec<u8>,
+    pins: Option<&Node>,
+) -> Result<(), NoMemory>
     ensures { OnOk result (text.new.items ≡ text.old.items ++ node_lines (option_map (λ node. node.now) pins.entry)) }
 {
     match pins {

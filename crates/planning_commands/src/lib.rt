@@ -9,6 +9,8 @@ mod checked_text;
 pub mod laws;
 mod merged_table;
 mod node_words;
+pub mod plan;
+mod plan_text;
 mod ranges;
 mod reading;
 pub mod relax;

@@ -1,10 +1,14 @@
-use Rattle.std.proofs.Common.{inl, inr}
+use Rattle.std.proofs.Common.{◌∷◌, [], inl, inr}
 use Rattle.std.proofs.lemmas.Result.{IfOk-weaker}
-use Rattle.command_endings.specs.Worlds.{Reading}
+use Rattle.command_endings.specs.Worlds.{Creating, Reading}
 use Rattle.command_endings.proofs.WorldLemmas.{reads, on_shelf}
 use Rattle.planning_commands.specs.Best.{BestEnds}
 use Rattle.planning_commands.specs.Check.{CheckEnds}
+use Rattle.planning_commands.specs.Plan.{PlanEnds, PinnedEnds}
 use Rattle.planning_commands.specs.Relax.{RelaxEnds}
+use Rattle.goseed_words.specs.Commands.{Recipe, AnAmount, ANumber, ASet, Plan, Pinned}
+use Rattle.goseed_words.proofs.OperandLemmas.{second_created}
+use Rattle.goseed_top.proofs.RunLemmas.{leaves_created}
 use Rattle.planning_commands.specs.Weigh.{WeighEnds}
 use Rattle.goseed_top.proofs.command.report_of_order.Goals as goal
 
@@ -42,3 +46,57 @@ pub returns-in-Relax-clause-report : goal.returns-in-Relax-clause-report
 returns-in-Relax-clause-report g c = rw c.in-Relax.is
     (let E = RelaxEnds c.in-Relax.recipe.now c.in-Relax.target c.in-Relax.slack c.in-Relax.inside.now c.in-Relax.outside.now in
     IfOk-weaker c.relax.result _ _ (λ report over. inl (on_shelf _ _ _ _ _ (Reading E) _ _ (reads _ _ _ E _ _ c.relax.ensures.same over))) c.relax.ensures.report)
+
+pub plan-requires-clause-target : goal.plan-requires-clause-target
+plan-requires-clause-target g c = (rw c.in-Plan.is at c.requires).1.1.0
+
+pub plan-requires-clause-slack : goal.plan-requires-clause-slack
+plan-requires-clause-slack g c = (rw c.in-Plan.is at c.requires).1.1.1.0
+
+pub plan-requires-clause-budget : goal.plan-requires-clause-budget
+plan-requires-clause-budget g c = (rw c.in-Plan.is at c.requires).1.1.1.1.0.within
+
+pub returns-in-Plan-clause-report : goal.returns-in-Plan-clause-report
+returns-in-Plan-clause-report g c = rw c.in-Plan.is
+    (let E = PlanEnds c.in-Plan.recipe.now c.in-Plan.target c.in-Plan.slack c.in-Plan.nodes in
+    IfOk-weaker c.plan.result _ _ (λ report over. inl (on_shelf _ _ _ _ _ (Creating c.in-Plan.document.now E) _ _ over)) c.plan.ensures.report)
+
+pub returns-in-Plan-clause-left : goal.returns-in-Plan-clause-left
+returns-in-Plan-clause-left g c = λ told words asked.
+    let asks = rw c.in-Plan.is at asked in
+    let E = Creating c.in-Plan.document.now (PlanEnds c.in-Plan.recipe.now c.in-Plan.target c.in-Plan.slack c.in-Plan.nodes) in
+    leaves_created _ _ words c.in-Plan.document.now c.args.order E asked
+    (record { command = Plan; fits = asks.fits; created = second_created Recipe (AnAmount ∷ AnAmount ∷ ANumber 65535 ∷ []) asks.fits.operands _ asks.say })
+    (λ found left status text ends. rw c.in-Plan.is ends) (c.plan.ensures.left told)
+
+pub returns-in-Plan-clause-same : goal.returns-in-Plan-clause-same
+returns-in-Plan-clause-same g c = λ words asked none.
+    let asks = rw c.in-Plan.is at asked in
+    absurd (none c.in-Plan.document.now (record { command = Plan; fits = asks.fits; created = second_created Recipe (AnAmount ∷ AnAmount ∷ ANumber 65535 ∷ []) asks.fits.operands _ asks.say }))
+
+pub pinned-requires-clause-target : goal.pinned-requires-clause-target
+pinned-requires-clause-target g c = (rw c.in-Pinned.is at c.requires).1.1.0
+
+pub pinned-requires-clause-slack : goal.pinned-requires-clause-slack
+pinned-requires-clause-slack g c = (rw c.in-Pinned.is at c.requires).1.1.1.0
+
+pub pinned-requires-clause-budget : goal.pinned-requires-clause-budget
+pinned-requires-clause-budget g c = (rw c.in-Pinned.is at c.requires).1.1.1.1.0.within
+
+pub returns-in-Pinned-clause-report : goal.returns-in-Pinned-clause-report
+returns-in-Pinned-clause-report g c = rw c.in-Pinned.is
+    (let E = PinnedEnds c.in-Pinned.recipe.now c.in-Pinned.target c.in-Pinned.slack c.in-Pinned.nodes c.in-Pinned.go.now c.in-Pinned.stay.now in
+    IfOk-weaker c.pinned.result _ _ (λ report over. inl (on_shelf _ _ _ _ _ (Creating c.in-Pinned.document.now E) _ _ over)) c.pinned.ensures.report)
+
+pub returns-in-Pinned-clause-left : goal.returns-in-Pinned-clause-left
+returns-in-Pinned-clause-left g c = λ told words asked.
+    let asks = rw c.in-Pinned.is at asked in
+    let E = Creating c.in-Pinned.document.now (PinnedEnds c.in-Pinned.recipe.now c.in-Pinned.target c.in-Pinned.slack c.in-Pinned.nodes c.in-Pinned.go.now c.in-Pinned.stay.now) in
+    leaves_created _ _ words c.in-Pinned.document.now c.args.order E asked
+    (record { command = Pinned; fits = asks.fits; created = second_created Recipe (AnAmount ∷ AnAmount ∷ ANumber 65535 ∷ ASet ∷ ASet ∷ []) asks.fits.operands _ asks.say })
+    (λ found left status text ends. rw c.in-Pinned.is ends) (c.pinned.ensures.left told)
+
+pub returns-in-Pinned-clause-same : goal.returns-in-Pinned-clause-same
+returns-in-Pinned-clause-same g c = λ words asked none.
+    let asks = rw c.in-Pinned.is at asked in
+    absurd (none c.in-Pinned.document.now (record { command = Pinned; fits = asks.fits; created = second_created Recipe (AnAmount ∷ AnAmount ∷ ANumber 65535 ∷ ASet ∷ ASet ∷ []) asks.fits.operands _ asks.say }))

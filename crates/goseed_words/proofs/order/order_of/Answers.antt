@@ -17,3 +17,11 @@ returns-in-check-clause-meaning c =
 pub returns-in-relax-clause-meaning : goal.returns-in-relax-clause-meaning
 returns-in-relax-clause-meaning c =
     rw (command_words c.args.words.now c.in-Some.operands.now c.in-Some.command.now (codes "relax") _ c.in-Some.ensures.cases.0 c.as_str.ensures.value c.in-relax.is) c.relax_of.ensures.meaning
+
+pub returns-in-plan-clause-meaning : goal.returns-in-plan-clause-meaning
+returns-in-plan-clause-meaning c =
+    rw (command_words c.args.words.now c.in-Some.operands.now c.in-Some.command.now (codes "plan") _ c.in-Some.ensures.cases.0 c.as_str.ensures.value c.in-plan.is) c.plan_of.ensures.meaning
+
+pub returns-in-pinned-clause-meaning : goal.returns-in-pinned-clause-meaning
+returns-in-pinned-clause-meaning c =
+    rw (command_words c.args.words.now c.in-Some.operands.now c.in-Some.command.now (codes "pinned") _ c.in-Some.ensures.cases.0 c.as_str.ensures.value c.in-pinned.is) c.pinned_of.ensures.meaning
