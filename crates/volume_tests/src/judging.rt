@@ -1,0 +1,89 @@
+// What a volume says of bytes that changed below it.
+use crate::calls::{put_chunk, read_chunk, read_file};
+use crate::images::{ABC, BBC, changed, is_changed, small};
+use chunk_volume::{VolError, Volume};
+use std::alloc::Global;
+use volume_disk::MemRack;
+
+/// Whether the error names the chunk of `abc` and the digest of `bbc`.
+fn is_bad(error: VolError) -> bool {
+    match error {
+        VolError::BadChunk { name, found } => name == ABC && found == BBC,
+        _ => false,
+    }
+}
+
+/// Whether the chunk is refused.
+fn refuses_chunk(volume: &Volume, rack: &mut MemRack, name: &[u8; 32]) -> bool {
+    match read_chunk(volume, rack, name) {
+        Ok(_) => false,
+        Err(error) => is_bad(error),
+    }
+}
+
+/// Whether the file is refused.
+fn refuses_file(volume: &Volume, rack: &mut MemRack, name: &str) -> bool {
+    match read_file(volume, rack, name) {
+        Ok(_) => false,
+        Err(error) => is_bad(error),
+    }
+}
+
+/// Whether the bytes are refused where others stand under their digest.
+fn refuses_put(volume: &mut Volume, rack: &mut MemRack, bytes: &[u8]) -> bool {
+    match put_chunk(volume, rack, bytes) {
+        Ok(_) => false,
+        Err(error) => is_bad(error),
+    }
+}
+
+/// Whether the bytes are refused, and the rack has the changed bytes still.
+fn writes_nothing(volume: &mut Volume, rack: &mut MemRack, bytes: &[u8]) -> bool {
+    refuses_put(volume, rack, bytes) && is_changed(rack)
+}
+
+/// The small volume, on a rack whose bytes changed since it was opened.
+fn changed_small(alloc: Global) -> Option<(MemRack, Volume)> {
+    let (_, volume) = small(alloc)?;
+    let rack = changed(alloc)?;
+    Some((rack, volume))
+}
+
+/// Whether the changed chunk is refused.
+fn refuses_abc(alloc: Global) -> bool {
+    let Some((mut rack, volume)) = changed_small(alloc) else {
+        return false;
+    };
+    refuses_chunk(&volume, &mut rack, &ABC)
+}
+
+/// Whether the file of the changed chunk is refused.
+fn refuses_n(alloc: Global) -> bool {
+    let Some((mut rack, volume)) = changed_small(alloc) else {
+        return false;
+    };
+    refuses_file(&volume, &mut rack, "n")
+}
+
+/// Whether a put finds the changed chunk, and writes nothing.
+fn finds_changes(alloc: Global) -> bool {
+    let Some((mut rack, mut volume)) = changed_small(alloc) else {
+        return false;
+    };
+    writes_nothing(&mut volume, &mut rack, b"abc")
+}
+
+#[test]
+fn judges_chunks(rt: HostRuntime) {
+    assert!(rt; refuses_abc(rt.alloc()));
+}
+
+#[test]
+fn judges_files(rt: HostRuntime) {
+    assert!(rt; refuses_n(rt.alloc()));
+}
+
+#[test]
+fn judges_what_it_holds(rt: HostRuntime) {
+    assert!(rt; finds_changes(rt.alloc()));
+}
