@@ -1,6 +1,11 @@
 pub mod Bounds
 pub mod Choosing
+pub mod Counted
+pub mod FileUses
 pub mod Flags
+pub mod Kept
 pub mod Members
+pub mod Moves
+pub mod Shares
 pub mod Steps
 pub mod Tallies

@@ -2,22 +2,26 @@
 use Rattle.std.specs.Prelude.{◌≡◌, ◌||◌, ◌&&◌, ◌==◌, List, Bool, length, nat_lt, Option, Some, None, if◌then◌else◌}
 use Rattle.seed_model.specs.declared.node.Node.{Node}
 use Rattle.seed_model.specs.declared.range.Range.{Range}
+use Rattle.seed_model.specs.Files.{holds}
 use Rattle.seed_model.specs.Tables.{TableValue, IsTable}
 use Rattle.greedy_seed.specs.declared.choice.Candidate.{Candidate}
 use Rattle.greedy_seed.specs.declared.tally.Sums.{Sums}
 use Rattle.greedy_seed.specs.declared.tally.Tally.{Tally}
 use Rattle.greedy_seed.specs.Greedy.{MayAdd, MayFlip, added, flipped, migrates, replicates}
+use Rattle.greedy_seed.specs.Shares.{AreAllUses, AreKept}
 
 -- the sums of a set
 pub record AreSums (table : TableValue) (set : List Bool) (sums : Sums) : Type 0 where
   pub migrated : sums.migrated ≡ migrates table set
   pub replicated : sums.replicated ≡ replicates table set
 
--- the tally of a set of a table's files
+-- the tally of a set of a table's files: its sums, which classes each file uses, and what moving a file changes
 pub record IsTally (table : TableValue) (tally : Tally) : Type 0 where
   pub lawful : IsTable table
   pub files : length tally.set ≡ table.files
   pub sums : AreSums table tally.set tally.sums
+  pub uses : AreAllUses table tally.uses
+  pub shares : AreKept (λ class. holds tally.set) table (length table.classes) tally.shares
 
 -- a candidate of a turn, with the sums of the larger set
 pub record IsAddition (table : TableValue) (range : Range) (pins : Node) (set : List Bool) (c : Candidate) : Type 0 where

@@ -1,3 +1,4 @@
 pub mod Greedy
 pub mod Admitted
 pub mod Inside
+pub mod Shares

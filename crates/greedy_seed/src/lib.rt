@@ -5,8 +5,10 @@
 mod choice;
 pub mod laws;
 mod seeding;
+mod sharing;
 mod tally;
 pub mod tried;
+mod uses;
 
 pub use laws::greedy_laws;
 pub use seeding::greedy;

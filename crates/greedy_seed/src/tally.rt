@@ -1,12 +1,11 @@
-// A set with its sums, and those of the sets beside it.
-ghost use Rattle.std.specs.Prelude.{◌≡◌, ◌<◌, ◌≤◌, All, length, IfOk};
-ghost use Rattle.std.specs.List.{list_all, list_any};
-ghost use Rattle.seed_model.specs.Files.{holds};
-ghost use Rattle.seed_model.specs.Sums.{migrated_of, touched_of};
-ghost use Rattle.greedy_seed.specs.Greedy.{migrates, replicates, flipped};
+// A set with its sums, and for each file what moving it changes.
+ghost use Rattle.std.specs.Prelude.{◌≡◌, ◌<◌, length, IfOk};
+ghost use Rattle.greedy_seed.specs.Greedy.{flipped};
 ghost use Rattle.greedy_seed.specs.Inside.{IsTally, AreSums};
 
-use seed_model::limits::MOST_BYTES;
+use crate::sharing::Shares;
+use crate::uses::uses_of;
+use list_facts::KeyedLists;
 use seed_model::{NoMemory, PlanSet, Table, migrated, replicated};
 use std::alloc::Global;
 
@@ -17,11 +16,13 @@ pub struct Sums {
     pub replicated: u64,
 }
 
-/// A set of a table's files with its sums.
+/// A set of a table's files with its sums, the classes that each file uses, and what moving a file changes.
 #[derive(Drop)]
 pub struct Tally {
     pub set: PlanSet,
     pub sums: Sums,
+    uses: KeyedLists<u32>,
+    shares: Shares,
 }
 
 impl Tally {
@@ -31,12 +32,18 @@ impl Tally {
         ensures set { IfOk result (λ tally. tally.set ≡ set) }
         ensures tally { IfOk result (λ tally. IsTally table.now tally) }
     {
-        let _ = (alloc, table.files());
         let sums = Sums {
             migrated: migrated(table, &set),
             replicated: replicated(table, &set),
         };
-        Ok(Tally { set, sums })
+        let uses = uses_of(alloc, table)?;
+        let shares = Shares::of(alloc, table, &set)?;
+        Ok(Tally {
+            set,
+            sums,
+            uses,
+            shares,
+        })
     }
 
     /// The sums of the set with a file flipped.
@@ -45,12 +52,24 @@ impl Tally {
         requires file { file < table.now.files }
         ensures { AreSums table.now (flipped self.now.set file) result }
     {
-        let migrated = migrated_flipped(table, &self.set, file);
-        let touched = touched_flipped(table, &self.set, file);
-        let replicated = touched - migrated;
-        Sums {
-            migrated,
-            replicated,
+        let gain = self.shares.gains[file as usize];
+        let reach = self.shares.reaches[file as usize];
+        if self.set.contains(file) {
+            let migrated = self.sums.migrated - gain;
+            let left = self.sums.replicated + gain;
+            let replicated = left - reach;
+            Sums {
+                migrated,
+                replicated,
+            }
+        } else {
+            let migrated = self.sums.migrated + gain;
+            let touched = self.sums.replicated + reach;
+            let replicated = touched - gain;
+            Sums {
+                migrated,
+                replicated,
+            }
         }
     }
 
@@ -62,73 +81,12 @@ impl Tally {
         ensures tally { IsTally table.now self.new }
     {
         self.sums = self.sums_flipped(table, file);
+        self.shares
+            .move_file(table, self.uses.list(file), &self.set, file);
         if self.set.contains(file) {
             self.set.remove(file);
         } else {
             self.set.insert(file);
         }
     }
-}
-
-/// Whether a file is in the set with another one flipped.
-fn is_in_flipped(set: &PlanSet, file: u32, user: u32) -> bool
-    requires file { file < length set.now }
-    requires user { user < length set.now }
-    ensures { result ≡ holds (flipped set.now file) user }
-{
-    if user == file {
-        !set.contains(file)
-    } else {
-        set.contains(user)
-    }
-}
-
-/// Whether all users are in the set with a file flipped.
-fn all_in_flipped(users: &[u32], set: &PlanSet, file: u32) -> bool
-    requires users { All (λ user. user < length set.now) users.now }
-    requires file { file < length set.now }
-    ensures { result ≡ list_all (holds (flipped set.now file)) users.now }
-{
-    users.iter().all(|user| is_in_flipped(set, file, *user))
-}
-
-/// Whether some user is in the set with a file flipped.
-fn any_in_flipped(users: &[u32], set: &PlanSet, file: u32) -> bool
-    requires users { All (λ user. user < length set.now) users.now }
-    requires file { file < length set.now }
-    ensures { result ≡ list_any (holds (flipped set.now file)) users.now }
-{
-    users.iter().any(|user| is_in_flipped(set, file, *user))
-}
-
-/// What the set with a file flipped migrates.
-fn migrated_flipped(table: &Table, set: &PlanSet, file: u32) -> u64
-    requires set { length set.now ≡ table.now.files }
-    requires file { file < table.now.files }
-    ensures sum { result ≡ migrated_of (holds (flipped set.now file)) table.now }
-    ensures within { result ≤ MOST_BYTES }
-{
-    let mut total = 0;
-    for class in table.class_list() {
-        if all_in_flipped(class.users.list(), set, file) {
-            total += class.size;
-        }
-    }
-    total
-}
-
-/// What the set with a file flipped touches.
-fn touched_flipped(table: &Table, set: &PlanSet, file: u32) -> u64
-    requires set { length set.now ≡ table.now.files }
-    requires file { file < table.now.files }
-    ensures sum { result ≡ touched_of (holds (flipped set.now file)) table.now }
-    ensures within { result ≤ MOST_BYTES }
-{
-    let mut total = 0;
-    for class in table.class_list() {
-        if any_in_flipped(class.users.list(), set, file) {
-            total += class.size;
-        }
-    }
-    total
 }

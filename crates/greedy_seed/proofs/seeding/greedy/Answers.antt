@@ -1,7 +1,13 @@
 use Rattle.std.proofs.Common.{◌∙◌}
 use Rattle.greedy_seed.proofs.Members.{found_choice}
-use Rattle.greedy_seed.proofs.Steps.{found, stuck}
+use Rattle.greedy_seed.proofs.Steps.{begun_too_high, found, stuck}
 use Rattle.greedy_seed.proofs.seeding.greedy.Goals as goal
+
+pub returns-then-tally-range-clause-tried : goal.returns-then-tally-range-clause-tried
+returns-then-tally-range-clause-tried c =
+    let begun = c.in_ok-tally.tally in
+    begun_too_high c.args.table.now c.args.range.now c.args.pins.now c.none_after.result begun.set begun.sums.migrated c.none_after.ensures (c.in_ok-tally.ensures.set ∙ c.in_ok-set.ensures.same)
+    c.in_ok-tally.ensures.tally.sums.migrated c.if-tally-range.true
 
 pub returns-then-tally-range-2-clause-tried : goal.returns-then-tally-range-2-clause-tried
 returns-then-tally-range-2-clause-tried c =
