@@ -26,7 +26,7 @@ use Rattle.volume_disk.specs.declared.rack.RackError.{RackError}
 use Rattle.volume_disk.specs.declared.rack.RackError.TheVariants.{Fault}
 use Rattle.volume_disk.proofs.Moments.{begins, weaker, leads_on}
 use Rattle.volume_disk.specs.Time.{Passes}
-use Rattle.chunk_log.specs.Quiet.{PutDown}
+use Rattle.chunk_log.specs.PuttingDown.{PutDown}
 use Rattle.chunk_log.specs.declared.errors.AppendError.{AppendError}
 use Rattle.chunk_log.proofs.Beside.{other_half, is_other, apart_from, records_stay, log_stays, shut_dormant}
 use Rattle.chunk_log.proofs.Standing.{rest_here}

@@ -5,10 +5,10 @@ pub mod Blanks
 pub mod Bodies
 pub mod HalfBlocks
 pub mod HalfFound
+pub mod HalfLogs
 pub mod NewRecords
 pub mod Opened
 pub mod PlaceHalves
-pub mod Quiets
 pub mod Reaching
 pub mod Shutting
 pub mod Standing

@@ -5,7 +5,7 @@ pub mod HalfWriting
 pub mod LogValues
 pub mod Opening
 pub mod PlaceHalves
-pub mod Quiet
+pub mod PuttingDown
 pub mod Retiring
 pub mod Runs
 pub mod Shutting

@@ -4,8 +4,8 @@ use Rattle.volume_disk.specs.Medium.{at_rest}
 use Rattle.volume_disk.specs.Disk.{Disk, Images, Crash}
 use Rattle.volume_disk.specs.Time.{Passes}
 use Rattle.site_forms.specs.Logs.{parse}
-use Rattle.site_forms.specs.Logs.Parsed.{Bad}
-use Rattle.site_forms.specs.Halves.{Half, device as half_device, generation, in_force as half_in_force, records_at, SameRecords}
+use Rattle.site_forms.specs.Logs.Parsed.{Good, Bad}
+use Rattle.site_forms.specs.Halves.{Half, device as half_device, generation, in_force as half_in_force, records_at, without_half, SameRecords}
 use Rattle.site_forms.specs.Halves.Half.{First, Second}
 use Rattle.chunk_log.specs.declared.errors.LogError.{LogError}
 use Rattle.chunk_log.specs.declared.errors.LogError.TheVariants.{RackFault, Damage}
@@ -109,6 +109,22 @@ abbrev pub IsPlaceLog : Disk → Disk → ℕ → Result LogValue LogError → T
 IsPlaceLog d e place (Ok log) = (records : List (List ℕ)) × (records_at (images_of d) place ≡ Some records) × LogStands place records log e
 IsPlaceLog d e place (Err (Damage device at)) = (records_at (images_of d) place ≡ None) × IsDamaged (d place).image (d (place + 3)).image place device at
 IsPlaceLog d e place (Err RackFault) = Unit {0}
+
+-- a log that stands for a place: that of the half in force, which said the same before it was opened
+pub record IsHalfLog (d e : Disk) (place : ℕ) (log : LogValue) : Type 0 where
+  pub half : Half
+  pub here : log.device ≡ half_device place half
+  pub is : half_in_force (d place).image (d (place + 3)).image ≡ Some half
+  pub bodies : List (List ℕ)
+  pub was : parse (half_image half (d place).image (d (place + 3)).image) ≡ Good bodies log.end
+  pub now : parse (e log.device).image ≡ Good bodies log.end
+  pub stands : LogStands place (without_half bodies) log e
+
+-- the same, exactly where the place has records
+abbrev pub IsHalfOf : Disk → Disk → ℕ → Result LogValue LogError → Type 0
+IsHalfOf d e place (Ok log) = IsHalfLog d e place log
+IsHalfOf d e place (Err (Damage device at)) = (records_at (images_of d) place ≡ None) × IsDamaged (d place).image (d (place + 3)).image place device at
+IsHalfOf d e place (Err RackFault) = Unit {0}
 
 -- opening a place: a crash at any moment leaves the same records at every place
 pub record OpensPlace {D : Type 0} (moment : D → ℕ) (left_since : D → ℕ → Images → Type 0) (old new : D) (d e : Disk) (place : ℕ) (result : Result LogValue LogError) : Type 0 where

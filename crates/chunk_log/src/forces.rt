@@ -3,12 +3,14 @@ ghost use Rattle.std.specs.Prelude.{◌≡◌, ◌+◌, ◌^◌, ◌≤◌, true
 ghost use Rattle.fault_count.specs.Counts.{HasCause, HandsOn};
 ghost use Rattle.volume_disk.specs.declared.rack.RackError.TheVariants.{Fault};
 ghost use Rattle.site_forms.specs.Halves.{generation};
+ghost use Rattle.device_pieces.specs.Pieces.{Shows};
 ghost use Rattle.chunk_log.specs.declared.errors.LogError.TheVariants.{RackFault};
-ghost use Rattle.chunk_log.specs.PlaceHalves.{chosen, SyncsBoth, ReadsBoth, SettlesBoth, FindsHalf, NamesHalf, AnswersPlace, OpensPlace};
-ghost use Rattle.chunk_log.specs.Quiet.{Quiet};
+ghost use Rattle.chunk_log.specs.PlaceHalves.{chosen, SyncsBoth, ReadsBoth, SettlesBoth, FindsHalf, IsHalfOf, NamesHalf, AnswersPlace, OpensPlace};
+ghost use Rattle.device_pieces.specs.Quiet.{Quiet};
 
 use crate::errors::LogError;
 use crate::gated_log::Log;
+use device_pieces::Piece;
 use volume_disk::{Rack, RackError};
 
 /// The generations of the two halves of a place.
@@ -35,7 +37,7 @@ pub fn in_force<R: Rack>(rack: &mut R, first: u8) -> Result<(u8, u64), LogError>
     }
 }
 
-/// Opens the log of a place: that of its half in force. Its limit is `limit` bytes.
+/// Opens the log of a place: that of its half in force. Its limit is `limit` bytes. Takes no memory.
 pub fn open_place<R: Rack>(rack: &mut R, place: u8, limit: u64) -> Result<Log, LogError>
     requires place { place ≤ 2 }
     requires limit { limit ≤ 2 ^ 40 }
@@ -43,9 +45,31 @@ pub fn open_place<R: Rack>(rack: &mut R, place: u8, limit: u64) -> Result<Log, L
     ensures honest { R.honest rack.new ≡ R.honest rack.old }
     ensures answers { AnswersPlace place limit result }
     ensures opened { R.honest rack.old ≡ true → OpensPlace R.moment R.left_since rack.old rack.new (R.disk rack.old) (R.disk rack.new) place result }
+    ensures half { R.honest rack.old ≡ true → IsHalfOf (R.disk rack.old) (R.disk rack.new) place result }
+{
+    let mut piece = Piece::without_room(place);
+    open_place_by(rack, &mut piece, place, limit)
+}
+
+/// Opens the log of a place as `open_place` does, and reads the half in force by a piece, which is turned to its device.
+pub fn open_place_by<R: Rack>(
+    rack: &mut R,
+    piece: &mut Piece,
+    place: u8,
+    limit: u64,
+) -> Result<Log, LogError>
+    requires place { place ≤ 2 }
+    requires limit { limit ≤ 2 ^ 40 }
+    ensures cause { HandsOn RackFault (R.faults rack.old) (R.faults rack.new) result }
+    ensures honest { R.honest rack.new ≡ R.honest rack.old }
+    ensures answers { AnswersPlace place limit result }
+    ensures device { IfOk result (λ log. piece.new.device ≡ log.device) }
+    ensures opened { R.honest rack.old ≡ true → OpensPlace R.moment R.left_since rack.old rack.new (R.disk rack.old) (R.disk rack.new) place result }
+    ensures half { R.honest rack.old ≡ true → IsHalfOf (R.disk rack.old) (R.disk rack.new) place result }
+    ensures shows { R.honest rack.old ≡ true → IfOk result (λ log. Shows (R.disk rack.new log.device).image piece.new) }
 {
     let half = in_force(rack, place)?;
-    Log::open(rack, half.0, limit)
+    Log::open_by(rack, piece, half.0, limit)
 }
 
 // The half with the only or the greater generation, the first where both have none.

@@ -5,7 +5,8 @@ ghost use Rattle.site_forms.specs.Logs.{parse, log_size};
 ghost use Rattle.site_forms.specs.Logs.Parsed.{Good};
 ghost use Rattle.chunk_log.specs.Appending.{Appends, Appended, IsUntouched, Noted};
 ghost use Rattle.chunk_log.specs.Opening.{Answers, Opened};
-ghost use Rattle.chunk_log.specs.Quiet.{Quiet};
+ghost use Rattle.device_pieces.specs.Quiet.{Quiet};
+ghost use Rattle.device_pieces.specs.Pieces.{Shows, stands_in};
 ghost use Rattle.chunk_log.specs.Walking.{Walks, FindsBlock, WalksTo, placed, place_behind, ReadsBytes, NamesPlace};
 ghost use Rattle.chunk_log.specs.declared.errors.AppendError.TheVariants.{RackFault as AppendFault};
 ghost use Rattle.chunk_log.specs.declared.errors.LogError.TheVariants.{RackFault, Damage};
@@ -17,6 +18,7 @@ use crate::gates::look;
 use crate::opening::{Found, settle};
 use crate::place::Place;
 use crate::writing::append_at;
+use device_pieces::Piece;
 use site_forms::Gate;
 use std::marker::Model;
 use volume_disk::{Rack, RackError};
@@ -53,7 +55,28 @@ impl Log {
         ensures answers { Answers device limit result }
         ensures opened { R.honest rack.old ≡ true → Opened R.moment R.left_since rack.old rack.new (R.disk rack.old) (R.disk rack.new) device result }
     {
-        match settle(rack, device) {
+        let mut piece = Piece::without_room(device);
+        Log::open_by(rack, &mut piece, device, limit)
+    }
+
+    /// Opens the log on a device as `open` does, and reads the device by a piece, which is turned to it first.
+    pub fn open_by<R: Rack>(
+        rack: &mut R,
+        piece: &mut Piece,
+        device: u8,
+        limit: u64,
+    ) -> Result<Log, LogError>
+        requires device { device ≤ 5 }
+        requires limit { limit ≤ 2 ^ 40 }
+        ensures cause { HandsOn RackFault (R.faults rack.old) (R.faults rack.new) result }
+        ensures honest { R.honest rack.new ≡ R.honest rack.old }
+        ensures answers { Answers device limit result }
+        ensures device { piece.new.device ≡ device }
+        ensures opened { R.honest rack.old ≡ true → Opened R.moment R.left_since rack.old rack.new (R.disk rack.old) (R.disk rack.new) device result }
+        ensures shows { R.honest rack.old ≡ true → Shows (R.disk rack.new device).image piece.new }
+    {
+        piece.turn_to(device);
+        match settle(rack, piece, device) {
             Ok(Found::End(end)) => Ok(Log {
                 device,
                 limit,
@@ -152,10 +175,37 @@ impl Log {
         ensures bodies { (bodies : List (List ℕ)) (i : ℕ) → R.honest rack.old ≡ true → parse (R.disk rack.old self.now.device).image ≡ Good bodies self.now.end → i < length bodies → at ≡ log_size (take i bodies)
             → WalksTo (place_behind at (length (slice_index_or bodies i []))) result }
     {
+        let mut piece = Piece::without_room(self.device);
+        self.walk_by(rack, &mut piece, at)
+    }
+
+    /// The place of the body behind a gate, as `walk` answers it, read by a piece of the log's device. Makes no call of the
+    /// rack where the gate and the length behind it stand in the piece.
+    pub fn walk_by<R: Rack>(
+        &self,
+        rack: &mut R,
+        piece: &mut Piece,
+        at: u64,
+    ) -> Result<Option<Place>, LogError>
+        requires device { piece.old.device ≡ self.now.device }
+        requires within { at ≤ self.now.end }
+        ensures cause { HandsOn RackFault (R.faults rack.old) (R.faults rack.new) result }
+        ensures honest { R.honest rack.new ≡ R.honest rack.old }
+        ensures calls { R.honest rack.old ≡ true → R.calls rack.new ≤ R.calls rack.old + 1 }
+        ensures inside { stands_in piece.old at 5 ≡ true → rack.new ≡ rack.old }
+        ensures device { piece.new.device ≡ self.now.device }
+        ensures walks { Walks self.now at result }
+        ensures quiet { R.honest rack.old ≡ true → Quiet R.moment R.left_since rack.old rack.new (R.disk rack.old) (R.disk rack.new) }
+        ensures shows { R.honest rack.old ≡ true → Shows (R.disk rack.old self.now.device).image piece.old → Shows (R.disk rack.old self.now.device).image piece.new }
+        ensures block { R.honest rack.old ≡ true → Shows (R.disk rack.old self.now.device).image piece.old → FindsBlock (R.disk rack.old self.now.device).image at self.now.end result }
+        ensures bodies { (bodies : List (List ℕ)) (i : ℕ) → R.honest rack.old ≡ true → Shows (R.disk rack.old self.now.device).image piece.old
+            → parse (R.disk rack.old self.now.device).image ≡ Good bodies self.now.end → i < length bodies → at ≡ log_size (take i bodies)
+            → WalksTo (place_behind at (length (slice_index_or bodies i []))) result }
+    {
         if at == self.end {
             return Ok(None);
         }
-        match look(rack, self.device, at, self.end + 1) {
+        match look(rack, piece, at, self.end + 1) {
             Ok(gate) => self.behind(at, gate),
             Err(RackError::Fault) => Err(LogError::RackFault),
         }
@@ -200,8 +250,33 @@ impl Log {
         ensures quiet { R.honest rack.old ≡ true → Quiet R.moment R.left_since rack.old rack.new (R.disk rack.old) (R.disk rack.new) }
         ensures bytes { R.honest rack.old ≡ true → ReadsBytes (R.disk rack.old self.now.device).image at into.new result }
     {
+        let mut piece = Piece::without_room(self.device);
+        self.read_body_by(rack, &mut piece, at, into)
+    }
+
+    /// Copies bytes of the log from a place on, before its end, read by a piece of the log's device. Makes no call of the
+    /// rack where they stand in the piece.
+    pub fn read_body_by<R: Rack>(
+        &self,
+        rack: &mut R,
+        piece: &mut Piece,
+        at: u64,
+        into: &mut [u8],
+    ) -> Result<(), LogError>
+        requires device { piece.old.device ≡ self.now.device }
+        requires within { at + length into.old ≤ self.now.end }
+        ensures cause { HandsOn RackFault (R.faults rack.old) (R.faults rack.new) result }
+        ensures honest { R.honest rack.new ≡ R.honest rack.old }
+        ensures calls { R.honest rack.old ≡ true → R.calls rack.new ≤ R.calls rack.old + 1 }
+        ensures inside { stands_in piece.old at (length into.old) ≡ true → rack.new ≡ rack.old }
+        ensures device { piece.new.device ≡ self.now.device }
+        ensures place { NamesPlace self.now.device at result }
+        ensures quiet { R.honest rack.old ≡ true → Quiet R.moment R.left_since rack.old rack.new (R.disk rack.old) (R.disk rack.new) }
+        ensures shows { R.honest rack.old ≡ true → Shows (R.disk rack.old self.now.device).image piece.old → Shows (R.disk rack.old self.now.device).image piece.new }
+        ensures bytes { R.honest rack.old ≡ true → Shows (R.disk rack.old self.now.device).image piece.old → ReadsBytes (R.disk rack.old self.now.device).image at into.new result }
+    {
         let wanted = into.len();
-        match rack.read(self.device, at, into) {
+        match piece.read(rack, at, into) {
             Ok(count) => {
                 if count < wanted {
                     return Err(self.damage(at));

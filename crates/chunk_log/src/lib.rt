@@ -17,7 +17,7 @@ mod writing;
 
 pub use errors::{AppendError, LogError};
 pub use example::three_appends;
-pub use forces::{in_force, open_place};
+pub use forces::{in_force, open_place, open_place_by};
 pub use frame::Frame;
 pub use gated_log::Log;
 pub use half_writer::HalfWriter;

@@ -3,11 +3,13 @@ ghost use Rattle.std.specs.Prelude.{◌≡◌, ◌^◌, ◌<◌, ◌≤◌, true
 ghost use Rattle.fault_count.specs.Counts.{HasCause, HandsOn};
 ghost use Rattle.volume_disk.specs.Disk.{SameElsewhere};
 ghost use Rattle.volume_disk.specs.declared.rack.RackError.TheVariants.{Fault};
+ghost use Rattle.device_pieces.specs.Pieces.{Shows, no_piece};
+ghost use Rattle.device_pieces.specs.Quiet.{Quiet};
 ghost use Rattle.chunk_log.specs.Opening.{EndBelow, Finds, Settled};
-ghost use Rattle.chunk_log.specs.Quiet.{Quiet};
 
 use crate::gates::look;
 use crate::writing::put_down;
+use device_pieces::Piece;
 use site_forms::Gate;
 use volume_disk::{Rack, RackError};
 
@@ -20,18 +22,24 @@ pub(crate) enum Found {
     Bad(u64),
 }
 
-/// Walks over the gates of a device of this size to the one behind the bodies, or to the one at fault.
-pub(crate) fn find_end<R: Rack>(rack: &mut R, device: u8, size: u64) -> Result<Found, RackError>
-    requires { device ≤ 5 }
+/// Walks over the gates of the device of a piece, of this size, to the one behind the bodies, or to the one at fault.
+pub(crate) fn find_end<R: Rack>(
+    rack: &mut R,
+    piece: &mut Piece,
+    size: u64,
+) -> Result<Found, RackError>
     ensures cause { HandsOn Fault (R.faults rack.old) (R.faults rack.new) result }
     ensures honest { R.honest rack.new ≡ R.honest rack.old }
     ensures below { IfOk result EndBelow }
+    ensures device { piece.new.device ≡ piece.old.device }
     ensures quiet { R.honest rack.old ≡ true → Quiet R.moment R.left_since rack.old rack.new (R.disk rack.old) (R.disk rack.new) }
-    ensures finds { R.honest rack.old ≡ true → size ≡ length (R.disk rack.old device).image → 2 ≤ size → IfOk result (Finds (R.disk rack.old device).image) }
+    ensures shows { R.honest rack.old ≡ true → Shows (R.disk rack.old piece.old.device).image piece.old → Shows (R.disk rack.old piece.old.device).image piece.new }
+    ensures finds { R.honest rack.old ≡ true → Shows (R.disk rack.old piece.old.device).image piece.old → size ≡ length (R.disk rack.old piece.old.device).image → 2 ≤ size
+        → IfOk result (Finds (R.disk rack.old piece.old.device).image) }
 {
     let mut at = 0;
     'gates: loop {
-        match look(rack, device, at, size)? {
+        match look(rack, piece, at, size)? {
             Gate::Shut => return Ok(Found::End(at)),
             Gate::Broken => return Ok(Found::Bad(at)),
             Gate::Open(len) => at += 5 + u64::from(len),
@@ -39,12 +47,20 @@ pub(crate) fn find_end<R: Rack>(rack: &mut R, device: u8, size: u64) -> Result<F
     }
 }
 
-/// Syncs a device, gives it a gate where it is blank, and finds the gate behind its bodies.
-pub(crate) fn settle<R: Rack>(rack: &mut R, device: u8) -> Result<Found, RackError>
-    requires { device ≤ 5 }
+/// Syncs the device of a piece of which nothing is read yet, gives it a gate where it is blank, and finds the gate behind
+/// its bodies.
+pub(crate) fn settle<R: Rack>(
+    rack: &mut R,
+    piece: &mut Piece,
+    device: u8,
+) -> Result<Found, RackError>
+    requires device { device ≤ 5 }
+    requires piece { piece.old ≡ no_piece device piece.old.width }
     ensures cause { HandsOn Fault (R.faults rack.old) (R.faults rack.new) result }
     ensures honest { R.honest rack.new ≡ R.honest rack.old }
     ensures below { IfOk result EndBelow }
+    ensures device { piece.new.device ≡ device }
+    ensures shows { R.honest rack.old ≡ true → Shows (R.disk rack.new device).image piece.new }
     ensures settled { R.honest rack.old ≡ true → Settled R.moment R.left_since rack.old rack.new (R.disk rack.old) (R.disk rack.new) device result }
 {
     rack.sync(device)?;
@@ -53,5 +69,5 @@ pub(crate) fn settle<R: Rack>(rack: &mut R, device: u8) -> Result<Found, RackErr
         put_down(rack, device, 0, &[0])?;
         return Ok(Found::End(0));
     }
-    find_end(rack, device, size)
+    find_end(rack, piece, size)
 }

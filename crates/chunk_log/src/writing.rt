@@ -3,7 +3,7 @@ ghost use Rattle.std.specs.Prelude.{◌≡◌, ◌+◌, ◌^◌, ◌<◌, ◌≤
 ghost use Rattle.fault_count.specs.Counts.{HasCause};
 ghost use Rattle.volume_disk.specs.declared.rack.RackError.TheVariants.{Fault};
 ghost use Rattle.chunk_log.specs.Bodies.{BodyAppended};
-ghost use Rattle.chunk_log.specs.Quiet.{PutDown};
+ghost use Rattle.chunk_log.specs.PuttingDown.{PutDown};
 
 use crate::frame::Frame;
 use volume_disk::{Rack, RackError};

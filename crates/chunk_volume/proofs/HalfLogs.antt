@@ -1,74 +1,26 @@
 -- The log of a half that is opened, and the volume of its records.
-use Rattle.std.proofs.Common.{◌≡◌, inl, inr, ℕ, suc, ◌+◌, ◌≤◌, ◌<◌, List, [], ◌∷◌, ◌++◌, length, take, drop, Bool, true, false, Option, Some, None, Result, Ok, Err, refl, sym, ◌∙◌, ap, subst, arith}
+use Rattle.std.proofs.Common.{◌≡◌, inl, inr, ℕ, suc, ◌+◌, ◌<◌, List, [], ◌∷◌, ◌++◌, length, take, drop, Bool, true, false, Option, Some, None, Ok, Err, refl, sym, ◌∙◌, ap, subst, arith}
 use Rattle.std.specs.Prelude.{nat_le, if◌then◌else◌}
 use Rattle.std.specs.Option.{option_and_then}
 use Rattle.std.proofs.lemmas.List.{take-append-drop}
-use Rattle.volume_disk.specs.Medium.{Medium, at_rest}
-use Rattle.volume_disk.specs.Disk.{Disk, SameDisk, SameElsewhere}
-use Rattle.site_forms.specs.Halves.{Half, device as half_device, half_number, in_force as half_in_force, records_at, without_half}
-use Rattle.site_forms.specs.Halves.Half.{First, Second}
-use Rattle.site_forms.specs.Logs.{parse}
+use Rattle.volume_disk.specs.Disk.{Disk, SameDisk}
+use Rattle.site_forms.specs.Halves.{half_number, records_at, without_half}
 use Rattle.site_forms.specs.Volumes.{Volume, volume_of, volume_step, empty_volume, fold_from}
 use Rattle.chunk_log.specs.declared.errors.LogError.{LogError}
 use Rattle.chunk_log.specs.declared.errors.LogError.TheVariants.{RackFault as LogFault, Damage as LogDamage}
 use Rattle.chunk_log.specs.LogValues.{LogValue}
-use Rattle.chunk_log.specs.Opening.{Answers, OpenedAs, OpensLog}
-use Rattle.chunk_log.specs.PlaceHalves.{images_of, IsHalf, IsOfPlace, NamesHalf, AnswersPlace}
+use Rattle.chunk_log.specs.PlaceHalves.{images_of, IsHalfLog, IsHalfOf, IsOfPlace, AnswersPlace}
 use Rattle.chunk_log.specs.Standing.{LogStands}
-use Rattle.chunk_log.proofs.PlaceHalves.{opened_place, place_stands, place_told, refused_place}
+use Rattle.chunk_log.proofs.PlaceHalves.{place_told}
 use Rattle.chunk_volume.specs.declared.errors.VolError.{VolError}
 use Rattle.chunk_volume.specs.declared.errors.VolError.TheVariants.{RackFault, Damage, BadChunk, Collision, Exists, NoSuchFile, DeviceFull, Spent, Memory}
 use Rattle.chunk_volume.specs.Errors.{of_log}
 use Rattle.chunk_volume.specs.Folding.{Folds, GathersLog}
-use Rattle.chunk_volume.specs.OpeningVolumes.{AnswersVolume, IsHalfLog, IsHalfOf, IsPlaceVolume}
+use Rattle.chunk_volume.specs.OpeningVolumes.{AnswersVolume, IsPlaceVolume}
 use Rattle.chunk_volume.specs.Standing.{Keeps, VolumeStands}
 use Rattle.chunk_volume.specs.VolumeValues.{VolumeValue}
 use Rattle.volume_index.specs.HoldingValues.{Places}
 use Rattle.volume_index.specs.Indexes.{IndexValue}
-
--- THE LOG OF THE HALF IN FORCE
-
-module _ (place dev limit : ℕ) (d m e : Disk) (is_place : place ≤ 2) where
-  half_log : (half : Half) (log : LogValue) → dev ≡ half_device place half → half_in_force (d place).image (d (place + 3)).image ≡ Some half → m place ≡ at_rest (d place).image → m (place + 3) ≡ at_rest (d (place + 3)).image → SameElsewhere dev m e
-      → Answers dev limit (Ok log) → OpensLog (m dev).image (e dev) (Ok log) → IsHalfLog d e place log
-  half_log First log is force one two others answers opens =
-      let x = (d place).image in
-      let y = (d (place + 3)).image in
-      let opened : OpenedAs x (e place) log.end = subst (λ (l : List ℕ). OpenedAs l (e place) log.end) (ap (λ (n : Medium). n.image) one) (subst (λ (n : ℕ). OpenedAs (m n).image (e n) log.end) is opens) in
-      record {
-        half = First;
-        here = answers.0 ∙ is;
-        is = force;
-        bodies = opened.bodies;
-        was = opened.told;
-        now = ap (λ (n : ℕ). parse (e n).image) (answers.0 ∙ is) ∙ ap (λ (n : Medium). parse n.image) opened.rest ∙ opened.log.good;
-        stands = place_stands First place x y d e log is_place force (answers.0 ∙ is) answers.2 (others (place + 3) (λ same. omega (arith, same, is)) ∙ two) opened;
-      }
-  half_log Second log is force one two others answers opens =
-      let x = (d place).image in
-      let y = (d (place + 3)).image in
-      let opened : OpenedAs y (e (place + 3)) log.end = subst (λ (l : List ℕ). OpenedAs l (e (place + 3)) log.end) (ap (λ (n : Medium). n.image) two) (subst (λ (n : ℕ). OpenedAs (m n).image (e n) log.end) is opens) in
-      record {
-        half = Second;
-        here = answers.0 ∙ is;
-        is = force;
-        bodies = opened.bodies;
-        was = opened.told;
-        now = ap (λ (n : ℕ). parse (e n).image) (answers.0 ∙ is) ∙ ap (λ (n : Medium). parse n.image) opened.rest ∙ opened.log.good;
-        stands = place_stands Second place x y d e log is_place force (answers.0 ∙ is) answers.2 (others place (λ same. omega (arith, same, is)) ∙ one) opened;
-      }
-
-  pub half_opened : (half : Half) (result : Result LogValue LogError) → dev ≡ half_device place half → half_in_force (d place).image (d (place + 3)).image ≡ Some half → m place ≡ at_rest (d place).image → m (place + 3) ≡ at_rest (d (place + 3)).image → SameElsewhere dev m e
-      → Answers dev limit result → OpensLog (m dev).image (e dev) result → IsHalfOf d e place result
-  half_opened half (Ok log) is force one two others answers opens = half_log half log is force one two others answers opens
-  half_opened half (Err (LogDamage device at)) is force one two others answers opens = opened_place half place dev limit d m e (Err (LogDamage device at)) is_place is force one two others answers opens
-  half_opened half (Err LogFault) is force one two others answers opens = tt
-
-pub half_refused : (d e : Disk) (place : ℕ) (error : LogError) → NamesHalf place (Err error) → IsHalf (d place).image (d (place + 3)).image place (Err error) → IsHalfOf d e place (Err error)
-half_refused d e place LogFault named is = tt
-half_refused d e place (LogDamage device at) named is = refused_place d e place (LogDamage device at) named is
-
--- THE VOLUME OF ITS RECORDS
 
 -- what fails in front fails
 fold_none : (state : Option Volume) (front rest : List (List ℕ)) → option_and_then (λ (s : Volume). fold_from volume_step s front) state ≡ None → option_and_then (λ (s : Volume). fold_from volume_step s (front ++ rest)) state ≡ None

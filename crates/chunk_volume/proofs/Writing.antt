@@ -15,7 +15,7 @@ use Rattle.site_forms.specs.VolumeRecords.VolumeRecord.{ChunkRecord}
 use Rattle.site_forms.specs.Volumes.{Volume, Shape, volume_after, shape_after}
 use Rattle.chunk_log.specs.Appending.{Appended, after_append}
 use Rattle.chunk_log.specs.LogValues.{LogValue}
-use Rattle.chunk_log.specs.Quiet.{Quiet}
+use Rattle.device_pieces.specs.Quiet.{Quiet}
 use Rattle.chunk_log.specs.Standing.{LogStands, half_of}
 use Rattle.chunk_log.proofs.Appended.{none_more}
 use Rattle.chunk_volume.specs.declared.errors.VolError.{VolError}

@@ -4,13 +4,9 @@ use Rattle.volume_disk.specs.Disk.{Disk, Images, Crash}
 use Rattle.volume_disk.specs.Time.{Passes}
 use Rattle.site_forms.specs.Logs.{parse, log_size}
 use Rattle.site_forms.specs.Logs.Parsed.{Good}
-use Rattle.site_forms.specs.Halves.{Half, device as half_device, in_force as half_in_force, without_half, records_at, SameRecords}
+use Rattle.site_forms.specs.Halves.{Half, device as half_device, in_force as half_in_force, without_half, SameRecords}
 use Rattle.site_forms.specs.Sites.{volume_at}
 use Rattle.site_forms.specs.Volumes.{Volume, volume_of}
-use Rattle.chunk_log.specs.declared.errors.LogError.{LogError}
-use Rattle.chunk_log.specs.declared.errors.LogError.TheVariants.{RackFault as LogFault, Damage as LogDamage}
-use Rattle.chunk_log.specs.LogValues.{LogValue}
-use Rattle.chunk_log.specs.Standing.{LogStands}
 use Rattle.chunk_log.specs.PlaceHalves.{SameOutside, images_of, half_image, IsOfPlace, IsDamaged}
 use Rattle.chunk_volume.specs.declared.errors.VolError.{VolError}
 use Rattle.chunk_volume.specs.declared.errors.VolError.TheVariants.{RackFault, Damage, BadChunk, Collision, Exists, NoSuchFile, DeviceFull, Spent, Memory}
@@ -34,27 +30,6 @@ pub record IsUnfolded (x y : List ℕ) (place device at : ℕ) : Type 0 where
   pub gate : ℕ
   pub log : parse (half_image half x y) ≡ Good bodies gate
   pub first : IsFirstUnfolded bodies at
-
--- a log that stands for a place: that of the half in force, which said the same before it was opened
-pub record IsHalfLog (d e : Disk) (place : ℕ) (log : LogValue) : Type 0 where
-  pub half : Half
-  pub here : log.device ≡ half_device place half
-  pub is : half_in_force (d place).image (d (place + 3)).image ≡ Some half
-  pub bodies : List (List ℕ)
-  pub was : parse (half_image half (d place).image (d (place + 3)).image) ≡ Good bodies log.end
-  pub now : parse (e log.device).image ≡ Good bodies log.end
-  pub stands : LogStands place (without_half bodies) log e
-
-abbrev pub IsHalfOf : Disk → Disk → ℕ → Result LogValue LogError → Type 0
-IsHalfOf d e place (Ok log) = IsHalfLog d e place log
-IsHalfOf d e place (Err (LogDamage device at)) = (records_at (images_of d) place ≡ None) × IsDamaged (d place).image (d (place + 3)).image place device at
-IsHalfOf d e place (Err LogFault) = ⊤
-
--- opening the log of a place: a crash at any moment leaves the same records at every place
-pub record OpensHalf {D : Type 0} (moment : D → ℕ) (left_since : D → ℕ → Images → Type 0) (old new : D) (d e : Disk) (place : ℕ) (result : Result LogValue LogError) : Type 0 where
-  pub others : SameOutside place d e
-  pub log : IsHalfOf d e place result
-  pub moments : Passes moment left_since old new (λ c. (b : Images) × Crash d b × SameRecords b c)
 
 -- what is answered, on every rack
 abbrev pub AnswersVolume : ℕ → ℕ → Result VolumeValue VolError → Type 0

@@ -2,54 +2,47 @@
 ghost use Rattle.std.specs.Prelude.{◌≡◌, ◌≢◌, ◌+◌, ◌<◌, ◌^◌, ◌∷◌, ◌≤◌, ℕ, List, Bool, true, length, nat_le, slice_index, IfOk, OnOk};
 ghost use Rattle.fault_count.specs.Counts.{HandsOn};
 ghost use Rattle.site_forms.specs.Halves.{half_number};
-ghost use Rattle.chunk_log.specs.PlaceHalves.{AnswersPlace};
-ghost use Rattle.chunk_log.specs.Quiet.{Quiet};
+ghost use Rattle.device_pieces.specs.Pieces.{Shows};
+ghost use Rattle.device_pieces.specs.Quiet.{Quiet};
 ghost use Rattle.chunk_log.specs.declared.errors.LogError.TheVariants.{RackFault as LogFault};
 ghost use Rattle.chunk_volume.specs.declared.errors.VolError.TheVariants.{RackFault};
 ghost use Rattle.chunk_volume.specs.Folding.{GathersLog, FoldsLog, FoldsBody, FoldsNext, IsFolded, IsUnfoldable, IsUndamaged, IsFrontOf, ReadsFront, NamesDevice, is_front_half};
-ghost use Rattle.chunk_volume.specs.OpeningVolumes.{OpensHalf};
 ghost use Rattle.chunk_volume.specs.Pieces.{bytes_at};
 ghost use Rattle.chunk_volume.specs.VolumeInside.{StandBefore};
 
 use crate::errors::VolError;
 use crate::records::{CHUNK_FRONT, chunk_in, chunk_name, file_in, names_in};
-use chunk_log::{Log, LogError, Place, in_force};
+use chunk_log::{Log, LogError, Place};
+use device_pieces::Piece;
 use file_names::file_name_of;
 use seed_model::NoMemory;
 use std::alloc::Global;
 use volume_disk::Rack;
 use volume_index::Index;
 
-/// Opens the log of a place, 0 for A and 1 for B: that of its half in force.
-pub(crate) fn open_half<R: Rack>(rack: &mut R, place: u8, limit: u64) -> Result<Log, LogError>
-    requires place { place ≤ 1 }
-    requires limit { limit ≤ 2 ^ 40 }
-    ensures cause { HandsOn LogFault (R.faults rack.old) (R.faults rack.new) result }
-    ensures honest { R.honest rack.new ≡ R.honest rack.old }
-    ensures answers { AnswersPlace place limit result }
-    ensures opened { R.honest rack.old ≡ true → OpensHalf R.moment R.left_since rack.old rack.new (R.disk rack.old) (R.disk rack.new) place result }
-{
-    let half = in_force(rack, place)?;
-    Log::open(rack, half.0, limit)
-}
-
-/// What the records of a log fold to, from the first to the last.
-pub(crate) fn gather<R: Rack>(alloc: Global, rack: &mut R, log: &Log) -> Result<Index, VolError>
+/// What the records of a log fold to, from the first to the last, read by a piece of its device.
+pub(crate) fn gather<R: Rack>(
+    alloc: Global,
+    rack: &mut R,
+    piece: &mut Piece,
+    log: &Log,
+) -> Result<Index, VolError>
+    requires { piece.old.device ≡ log.now.device }
     ensures cause { HandsOn RackFault (R.faults rack.old) (R.faults rack.new) result }
     ensures honest { R.honest rack.new ≡ R.honest rack.old }
     ensures answers { GathersLog log.now.device result }
     ensures within { IfOk result (λ index. StandBefore log.now.end index.places index.shape.chunks) }
     ensures quiet { R.honest rack.old ≡ true → Quiet R.moment R.left_since rack.old rack.new (R.disk rack.old) (R.disk rack.new) }
-    ensures folds { R.honest rack.old ≡ true → FoldsLog (R.disk rack.old log.now.device).image log.now.end result }
+    ensures folds { R.honest rack.old ≡ true → Shows (R.disk rack.old log.now.device).image piece.old → FoldsLog (R.disk rack.old log.now.device).image log.now.end result }
 {
     let mut index = Index::new(alloc);
     let mut body = Vec::new(alloc);
     let mut at = 0;
     'records: while at < log.end() {
-        let Some(place) = log.walk(rack, at)? else {
+        let Some(place) = log.walk_by(rack, piece, at)? else {
             return Ok(index);
         };
-        if !fold_next(alloc, rack, log, place, &mut body, &mut index)? {
+        if !fold_next(alloc, rack, piece, log, place, &mut body, &mut index)? {
             return Err(VolError::Damage {
                 device: log.device(),
                 at,
@@ -64,11 +57,13 @@ pub(crate) fn gather<R: Rack>(alloc: Global, rack: &mut R, log: &Log) -> Result<
 fn fold_next<R: Rack>(
     alloc: Global,
     rack: &mut R,
+    piece: &mut Piece,
     log: &Log,
     place: Place,
     body: &mut Vec<u8>,
     index: &mut Index,
 ) -> Result<bool, VolError>
+    requires device { piece.old.device ≡ log.now.device }
     requires begins { 5 ≤ place.at }
     requires some { 1 ≤ place.len }
     requires within { place.at + place.len ≤ log.now.end }
@@ -78,33 +73,43 @@ fn fold_next<R: Rack>(
     ensures answers { GathersLog log.now.device result }
     ensures within { (gate : ℕ) → place.at ≡ gate + 5 → StandBefore gate index.old.places index.old.shape.chunks
         → IfOk result (λ is. is ≡ true → StandBefore (place.at + place.len) index.new.places index.new.shape.chunks) }
+    ensures device { piece.new.device ≡ log.now.device }
     ensures quiet { R.honest rack.old ≡ true → Quiet R.moment R.left_since rack.old rack.new (R.disk rack.old) (R.disk rack.new) }
-    ensures undamaged { R.honest rack.old ≡ true → place.at + place.len ≤ length (R.disk rack.old log.now.device).image → IsUndamaged result }
-    ensures folds { (gate : ℕ) → R.honest rack.old ≡ true → place.at ≡ gate + 5 → place.at + place.len ≤ length (R.disk rack.old log.now.device).image
+    ensures shows { R.honest rack.old ≡ true → Shows (R.disk rack.old log.now.device).image piece.old → Shows (R.disk rack.old log.now.device).image piece.new }
+    ensures undamaged { R.honest rack.old ≡ true → Shows (R.disk rack.old log.now.device).image piece.old → place.at + place.len ≤ length (R.disk rack.old log.now.device).image → IsUndamaged result }
+    ensures folds { (gate : ℕ) → R.honest rack.old ≡ true → Shows (R.disk rack.old log.now.device).image piece.old → place.at ≡ gate + 5 → place.at + place.len ≤ length (R.disk rack.old log.now.device).image
         → IfOk result (FoldsNext gate index.old index.new (bytes_at (R.disk rack.old log.now.device).image place.at place.len)) }
 {
-    let front = read_front(rack, log, place)?;
+    let front = read_front(rack, piece, log, place)?;
     if is_in_front(&front, place) {
         return Ok(true);
     }
     if front[0] == 1 {
         return Ok(fold_chunk(&front, place, index)?);
     }
-    fold_whole(alloc, rack, log, place, body, index)
+    fold_whole(alloc, rack, piece, log, place, body, index)
 }
 
 // The first 33 bytes of a body, or all of a shorter one with zeros behind it.
-fn read_front<R: Rack>(rack: &mut R, log: &Log, place: Place) -> Result<[u8; 33], LogError>
-    requires { place.at + place.len ≤ log.now.end }
+fn read_front<R: Rack>(
+    rack: &mut R,
+    piece: &mut Piece,
+    log: &Log,
+    place: Place,
+) -> Result<[u8; 33], LogError>
+    requires device { piece.old.device ≡ log.now.device }
+    requires within { place.at + place.len ≤ log.now.end }
     ensures cause { HandsOn LogFault (R.faults rack.old) (R.faults rack.new) result }
     ensures honest { R.honest rack.new ≡ R.honest rack.old }
-    ensures device { NamesDevice log.now.device result }
+    ensures named { NamesDevice log.now.device result }
+    ensures device { piece.new.device ≡ log.now.device }
     ensures quiet { R.honest rack.old ≡ true → Quiet R.moment R.left_since rack.old rack.new (R.disk rack.old) (R.disk rack.new) }
-    ensures front { R.honest rack.old ≡ true → ReadsFront (R.disk rack.old log.now.device).image place.at place.len result }
+    ensures shows { R.honest rack.old ≡ true → Shows (R.disk rack.old log.now.device).image piece.old → Shows (R.disk rack.old log.now.device).image piece.new }
+    ensures front { R.honest rack.old ≡ true → Shows (R.disk rack.old log.now.device).image piece.old → ReadsFront (R.disk rack.old log.now.device).image place.at place.len result }
 {
     let mut front = [0; 33];
     let count = place.len.min(CHUNK_FRONT) as usize;
-    log.read_body(rack, place.at, &mut front[..count])?;
+    log.read_body_by(rack, piece, place.at, &mut front[..count])?;
     Ok(front)
 }
 
@@ -151,46 +156,54 @@ fn fold_chunk(front: &[u8; 33], place: Place, index: &mut Index) -> Result<bool,
 fn fold_whole<R: Rack>(
     alloc: Global,
     rack: &mut R,
+    piece: &mut Piece,
     log: &Log,
     place: Place,
     body: &mut Vec<u8>,
     index: &mut Index,
 ) -> Result<bool, VolError>
+    requires device { piece.old.device ≡ log.now.device }
     requires within { place.at + place.len ≤ log.now.end }
     ensures cause { HandsOn RackFault (R.faults rack.old) (R.faults rack.new) result }
     ensures honest { R.honest rack.new ≡ R.honest rack.old }
     ensures answers { GathersLog log.now.device result }
     ensures within { (gate : ℕ) → place.at ≡ gate + 5 → StandBefore gate index.old.places index.old.shape.chunks
         → IfOk result (λ is. is ≡ true → StandBefore (place.at + place.len) index.new.places index.new.shape.chunks) }
+    ensures device { piece.new.device ≡ log.now.device }
     ensures quiet { R.honest rack.old ≡ true → Quiet R.moment R.left_since rack.old rack.new (R.disk rack.old) (R.disk rack.new) }
-    ensures undamaged { R.honest rack.old ≡ true → place.at + place.len ≤ length (R.disk rack.old log.now.device).image → IsUndamaged result }
-    ensures folds { (gate : ℕ) → R.honest rack.old ≡ true → slice_index (bytes_at (R.disk rack.old log.now.device).image place.at place.len) 0 ≢ 1
+    ensures shows { R.honest rack.old ≡ true → Shows (R.disk rack.old log.now.device).image piece.old → Shows (R.disk rack.old log.now.device).image piece.new }
+    ensures undamaged { R.honest rack.old ≡ true → Shows (R.disk rack.old log.now.device).image piece.old → place.at + place.len ≤ length (R.disk rack.old log.now.device).image → IsUndamaged result }
+    ensures folds { (gate : ℕ) → R.honest rack.old ≡ true → Shows (R.disk rack.old log.now.device).image piece.old → slice_index (bytes_at (R.disk rack.old log.now.device).image place.at place.len) 0 ≢ 1
         → IfOk result (FoldsBody gate index.old index.new (bytes_at (R.disk rack.old log.now.device).image place.at place.len)) }
 {
-    read_whole(rack, log, place, body)?;
+    read_whole(rack, piece, log, place, body)?;
     Ok(fold_body(alloc, body.as_slice(), index)?)
 }
 
 // Reads a body in the place of another.
 fn read_whole<R: Rack>(
     rack: &mut R,
+    piece: &mut Piece,
     log: &Log,
     place: Place,
     body: &mut Vec<u8>,
 ) -> Result<(), VolError>
-    requires { place.at + place.len ≤ log.now.end }
+    requires device { piece.old.device ≡ log.now.device }
+    requires within { place.at + place.len ≤ log.now.end }
     ensures cause { HandsOn RackFault (R.faults rack.old) (R.faults rack.new) result }
     ensures honest { R.honest rack.new ≡ R.honest rack.old }
     ensures answers { GathersLog log.now.device result }
+    ensures device { piece.new.device ≡ log.now.device }
     ensures quiet { R.honest rack.old ≡ true → Quiet R.moment R.left_since rack.old rack.new (R.disk rack.old) (R.disk rack.new) }
-    ensures undamaged { R.honest rack.old ≡ true → place.at + place.len ≤ length (R.disk rack.old log.now.device).image → IsUndamaged result }
+    ensures shows { R.honest rack.old ≡ true → Shows (R.disk rack.old log.now.device).image piece.old → Shows (R.disk rack.old log.now.device).image piece.new }
+    ensures undamaged { R.honest rack.old ≡ true → Shows (R.disk rack.old log.now.device).image piece.old → place.at + place.len ≤ length (R.disk rack.old log.now.device).image → IsUndamaged result }
     ensures long { OnOk result (length body.new.items ≡ place.len) }
-    ensures bytes { R.honest rack.old ≡ true → OnOk result (body.new.items ≡ bytes_at (R.disk rack.old log.now.device).image place.at place.len) }
+    ensures bytes { R.honest rack.old ≡ true → Shows (R.disk rack.old log.now.device).image piece.old → OnOk result (body.new.items ≡ bytes_at (R.disk rack.old log.now.device).image place.at place.len) }
 {
     if body.resize(place.len as usize, 0).is_err() {
         return Err(VolError::Memory);
     }
-    match log.read_body(rack, place.at, body.as_mut_slice()) {
+    match log.read_body_by(rack, piece, place.at, body.as_mut_slice()) {
         Ok(()) => Ok(()),
         Err(LogError::RackFault) => Err(VolError::RackFault),
         Err(LogError::Damage { device, at }) => Err(VolError::Damage { device, at }),

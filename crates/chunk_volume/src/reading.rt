@@ -1,7 +1,7 @@
 // Reading the bytes of chunks from the device.
 ghost use Rattle.std.specs.Prelude.{◌≡◌, ◌+◌, ◌≤◌, ◌↔◌, true, length, take, drop, IfOk};
 ghost use Rattle.fault_count.specs.Counts.{HandsOn};
-ghost use Rattle.chunk_log.specs.Quiet.{Quiet};
+ghost use Rattle.device_pieces.specs.Quiet.{Quiet};
 ghost use Rattle.chunk_log.specs.declared.errors.LogError.TheVariants.{RackFault as LogFault};
 ghost use Rattle.chunk_volume.specs.declared.errors.VolError.TheVariants.{RackFault};
 ghost use Rattle.chunk_volume.specs.Pieces.{Judges, ReadsPiece, FindsPiece, ComparesTo};

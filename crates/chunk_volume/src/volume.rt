@@ -9,7 +9,7 @@ ghost use Rattle.site_forms.specs.Sites.{HoldsChunk, HoldsFile};
 ghost use Rattle.site_forms.specs.VolumeRecords.{IsChunk};
 ghost use Rattle.site_forms.specs.VolumeRecords.VolumeRecord.{ChunkRecord, FileRecord, DropFileRecord, DropChunkRecord};
 ghost use Rattle.site_forms.specs.Volumes.{Volume as FormVolume, chunk_or, holds_all, keeps_limits, may_add_file, may_drop_chunk};
-ghost use Rattle.chunk_log.specs.Quiet.{Quiet};
+ghost use Rattle.device_pieces.specs.Quiet.{Quiet};
 ghost use Rattle.chunk_volume.specs.declared.errors.VolError.TheVariants.{RackFault};
 ghost use Rattle.chunk_volume.specs.Adding.{PutsChunk, PutsFile, DropsFile, DropsChunk, Adds, Compares, FindsHeld, IsSame, AddsRecord, PutsChunkOn};
 ghost use Rattle.chunk_volume.specs.OpeningVolumes.{AnswersVolume, OpensVolume};
@@ -20,11 +20,12 @@ ghost use Rattle.volume_index.specs.HoldingValues.{KeepsShape, held_bytes, orpha
 
 use crate::errors::VolError;
 use crate::framing::RecordFrame;
-use crate::opening::{gather, open_half};
+use crate::opening::gather;
 use crate::reading::{Compared, compare, read_piece};
 use crate::recipe::recipe_from;
 use crate::volume_log::VolumeLog;
-use chunk_log::LogError;
+use chunk_log::{LogError, open_place_by};
+use device_pieces::Piece;
 use recipe_reader::Recipe;
 use seed_model::NoMemory;
 use std::alloc::Global;
@@ -62,8 +63,8 @@ impl Model for Volume {
 }
 
 impl Volume {
-    /// Opens the volume of a place, 0 for A and 1 for B, whose devices may grow to `limit` bytes. Of a chunk's record its
-    /// length and its first 33 bytes are read.
+    /// Opens the volume of a place, 0 for A and 1 for B, whose devices may grow to `limit` bytes. The log is read by pieces
+    /// of 65,536 bytes; of a chunk's record only its length and its first 33 bytes are looked at.
     pub fn open<R: Rack>(
         alloc: Global,
         rack: &mut R,
@@ -77,8 +78,9 @@ impl Volume {
         ensures answers { AnswersVolume place limit result }
         ensures opened { R.honest rack.old ≡ true → OpensVolume R.moment R.left_since rack.old rack.new (R.disk rack.old) (R.disk rack.new) place result }
     {
-        let log = open_half(rack, place, limit)?;
-        let index = gather(alloc, rack, &log)?;
+        let mut piece = Piece::room(alloc, place)?;
+        let log = open_place_by(rack, &mut piece, place, limit)?;
+        let index = gather(alloc, rack, &mut piece, &log)?;
         let holding = Holding::of(index)?;
         let frame = RecordFrame::room(alloc, FIRST_BODY)?;
         Ok(Volume {

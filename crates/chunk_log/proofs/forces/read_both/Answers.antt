@@ -5,7 +5,7 @@ use Rattle.volume_disk.specs.Disk.{Crash}
 use Rattle.site_forms.specs.Halves.{generation}
 use Rattle.chunk_log.specs.PlaceHalves.{ReadsBoth}
 use Rattle.chunk_log.proofs.PlaceHalves.{on_ok_always}
-use Rattle.chunk_log.proofs.Quiets.{goes_on_quiet}
+use Rattle.device_pieces.proofs.Quiets.{goes_on_quiet}
 use Rattle.chunk_log.proofs.forces.read_both.Goals as goal
 
 pub returns-in_err-sync_both-clause-settled : goal.returns-in_err-sync_both-clause-settled

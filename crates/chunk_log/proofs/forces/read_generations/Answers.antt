@@ -1,7 +1,7 @@
 use Rattle.std.proofs.Common.{◌∙◌, ◌+◌, ap}
 use Rattle.volume_disk.specs.Medium.{Medium}
 use Rattle.site_forms.specs.Halves.{generation}
-use Rattle.chunk_log.proofs.Quiets.{quiet_then}
+use Rattle.device_pieces.proofs.Quiets.{quiet_then}
 use Rattle.chunk_log.proofs.forces.read_generations.Goals as goal
 
 pub returns-in_err-two-clause-quiet : goal.returns-in_err-two-clause-quiet

@@ -16,7 +16,7 @@ returns-clause-within g c = λ gate placed before yes.
     subst (λ (n : ℕ). StandBefore n new.places new.shape.chunks) end (folded_before gate old new body before (c.in_ok-fold_body.ensures.folded gate yes))
 
 pub returns-clause-folds : goal.returns-clause-folds
-returns-clause-folds g c = λ gate honest kind.
+returns-clause-folds g c = λ gate honest shows kind.
     let image = (g.R.Rack.disk c.args.rack.now c.args.log.now.device).image in
-    let is : c.as_slice.result.now ≡ bytes_at image c.args.place.at c.args.place.len = c.as_slice.ensures.value ∙ c.in_ok-read_whole.ensures.bytes honest in
+    let is : c.as_slice.result.now ≡ bytes_at image c.args.place.at c.args.place.len = c.as_slice.ensures.value ∙ c.in_ok-read_whole.ensures.bytes honest shows in
     subst (λ (l : List ℕ). FoldsBody gate c.args.index.now c.fold_body.new.index l c.in_ok-fold_body.field-0) is (c.in_ok-fold_body.ensures.folds gate (λ one. kind (ap (λ (l : List ℕ). slice_index l 0) (sym is) ∙ one)))

@@ -3,7 +3,7 @@ use Rattle.std.specs.Prelude.{◌↔◌}
 use Rattle.std.proofs.lemmas.List.{drop-drop, length-take, length-take-le, length-replicate}
 use Rattle.sha2.specs.Hashers.{Holds256}
 use Rattle.volume_disk.specs.Medium.{Medium}
-use Rattle.chunk_log.proofs.Quiets.{quiet_then}
+use Rattle.device_pieces.proofs.Quiets.{quiet_then}
 use Rattle.chunk_volume.proofs.Compared.{take_more, compared_more, AreSame}
 use Rattle.chunk_volume.proofs.reading.compare.Goals as goal
 

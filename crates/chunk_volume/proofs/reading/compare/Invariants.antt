@@ -1,7 +1,7 @@
 use Rattle.std.proofs.Common.{◌≡◌, ◌-◌, ◌≤◌, true, length, take, drop}
 use Rattle.std.specs.Prelude.{◌↔◌}
 use Rattle.sha2.specs.Hashers.{Holds256}
-use Rattle.chunk_log.specs.Quiet.{Quiet}
+use Rattle.device_pieces.specs.Quiet.{Quiet}
 use Rattle.chunk_volume.proofs.Compared.{AreSame}
 use Rattle.chunk_volume.proofs.reading.compare.Given as goal
 

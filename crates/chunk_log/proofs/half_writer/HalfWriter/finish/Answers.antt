@@ -1,7 +1,7 @@
 use Rattle.std.proofs.Common.{rules, ◌∙◌, ◌≤◌, ◌<◌, ◌^◌, ◌∷◌, [], Ok, inl, inr, sym, ap, subst, arith}
 use Rattle.volume_disk.specs.declared.rack.RackError.{RackError}
 use Rattle.chunk_log.specs.LogValues.{LogValue}
-use Rattle.chunk_log.specs.Quiet.{PutDown}
+use Rattle.chunk_log.specs.PuttingDown.{PutDown}
 use Rattle.chunk_log.specs.Standing.{LogStands}
 use Rattle.chunk_log.proofs.HalfBlocks.{half_written, same_first, same_ending, ends_shut, same_or_new, new_log}
 use Rattle.chunk_log.proofs.half_writer.HalfWriter.finish.Goals as goal

@@ -2,7 +2,7 @@ use Rattle.std.proofs.Common.{◌≡◌, ◌+◌, ◌++◌, ℕ, List, [], Some,
 use Rattle.std.specs.Prelude.{is_some}
 use Rattle.std.specs.declared.alloc.Global.{Global}
 use Rattle.std.specs.FinMap as map
-use Rattle.chunk_log.proofs.Quiets.{quiet_then}
+use Rattle.device_pieces.proofs.Quiets.{quiet_then}
 use Rattle.chunk_volume.specs.declared.errors.VolError.{VolError}
 use Rattle.chunk_volume.specs.declared.errors.VolError.TheVariants.{Memory}
 use Rattle.chunk_volume.specs.ReadingVolumes.{ReadsFile, FindsFile}

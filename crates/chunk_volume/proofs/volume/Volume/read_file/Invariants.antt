@@ -1,6 +1,6 @@
 use Rattle.std.proofs.Common.{◌≡◌, ℕ, true}
 use Rattle.site_forms.specs.Volumes.{Volume}
-use Rattle.chunk_log.specs.Quiet.{Quiet}
+use Rattle.device_pieces.specs.Quiet.{Quiet}
 use Rattle.chunk_volume.specs.Standing.{VolumeStands}
 use Rattle.chunk_volume.proofs.Files.{PiecesRead, PiecesFound}
 use Rattle.chunk_volume.proofs.volume.Volume.read_file.Given as goal

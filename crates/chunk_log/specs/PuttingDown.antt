@@ -1,17 +1,12 @@
--- Calls that change no device, and one write that is made to last.
+-- One write that is made to last.
 use Rattle.std.specs.Prelude.{◌≡◌, ℕ, ◌≤◌, List, length, Result, OnOk}
 use Rattle.volume_disk.specs.Medium.{at_rest, written}
-use Rattle.volume_disk.specs.Disk.{Disk, Images, Crash, SameDisk, SameElsewhere}
+use Rattle.volume_disk.specs.Disk.{Disk, Images, Crash, SameElsewhere}
 use Rattle.volume_disk.specs.Left.{OneWriteAt}
 use Rattle.volume_disk.specs.Time.{Passes}
 use Rattle.chunk_log.specs.Shutting.{IsShut, SameOrShut}
 
 module _ {D : Type 0} (moment : D → ℕ) (left_since : D → ℕ → Images → Type 0) (old new : D) (d e : Disk) where
-  -- no device has changed, and a crash at any moment leaves what it might have left before
-  pub record Quiet : Type 0 where
-    pub same : SameDisk d e
-    pub moments : Passes moment left_since old new (Crash d)
-
   -- a write and a sync: no other device changes, and once done the device is at rest with the bytes; where it began at
   -- rest, inside its image, a crash at any moment leaves all outside the range as it was; and behind a first gate that
   -- is closed it leaves that gate closed

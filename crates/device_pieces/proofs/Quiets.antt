@@ -4,7 +4,7 @@ use Rattle.volume_disk.specs.Disk.{Disk, Images, Crash, SameDisk}
 use Rattle.volume_disk.specs.Time.{Elapses, Passes}
 use Rattle.volume_disk.proofs.Moments.{begins, follows_on, holds_now}
 use Rattle.volume_disk.proofs.Leads.{goes_on_same}
-use Rattle.chunk_log.specs.Quiet.{Quiet}
+use Rattle.device_pieces.specs.Quiet.{Quiet}
 
 module _ {D : Type 0} (moment : D → ℕ) (left_since : D → ℕ → Images → Type 0) where
   -- before the first call

@@ -1,0 +1,3 @@
+pub mod PieceValues
+pub mod Pieces
+pub mod Quiet
