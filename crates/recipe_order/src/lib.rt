@@ -1,0 +1,6 @@
+//! The order of a recipe's files: recipes sorted by shared bytes, and sets of files carried from one order to another.
+#![tactic(auto)]
+
+pub mod laws;
+
+pub use laws::{likeness_laws, order_laws};
