@@ -12,12 +12,12 @@ use Rattle.recipe_reader.specs.Recipes.{RecipeValue, file_number, table_of}
 use Rattle.recipe_reader.specs.WrittenRows.{file_at}
 use Rattle.recipe_order.specs.Laws.{AreAlike, HaveSameSums, KeepsRange, KeepsBest, KeepsNone, CarriesSums, CarriesRange, CarriesBest, IsReflexive, IsSymmetric, IsTransitive, HoldsOfSame}
 use Rattle.recipe_order.specs.Reordered.{named_set, names_of, carried_set}
-use Rattle.recipe_order.proofs.Names.{number_of_file}
+use Rattle.recipe_order.proofs.Names.{keyed, number_of_file}
 use Rattle.recipe_order.proofs.NamedSums.{keeps_sums, turned}
 
 -- a set of files is the set of its names
 same_set : (r : RecipeValue) (set : ℕ → Bool) → IsRecipe r → AgreesBelow (length r.files) set (named_set r (names_of r set))
-same_set r set h file lt = ap set (sym (number_of_file r file h lt))
+same_set r set h file lt = ap set (sym (number_of_file r file (keyed r h) lt))
 
 by_names : (r : RecipeValue) (set : ℕ → Bool) → IsRecipe r → HaveSameSums r r set (named_set r (names_of r set))
 by_names r set h =

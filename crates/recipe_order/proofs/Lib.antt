@@ -1,3 +1,9 @@
 pub mod Alike
+pub mod Copying
 pub mod Names
 pub mod NamedSums
+pub mod Ordering
+pub mod Sharing
+pub mod InOrder
+pub mod Steps
+pub mod Within

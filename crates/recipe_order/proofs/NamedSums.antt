@@ -18,7 +18,7 @@ use Rattle.incidence.proofs.ChunkTables.{sum_by-map}
 use Rattle.incidence.proofs.Exact.{users_exact}
 use Rattle.recipe_order.specs.Laws.{AreAlike, HaveSameSums, KeepsSums, KeepsBytes}
 use Rattle.recipe_order.specs.Reordered.{IsReordered, named_set}
-use Rattle.recipe_order.proofs.Names.{no_chunk, name_is, size_is, number_of_chunk, chunk_by_name, pair_below, uses_of_pair, numbered}
+use Rattle.recipe_order.proofs.Names.{keyed, no_chunk, name_is, size_is, number_of_chunk, chunk_by_name, pair_below, uses_of_pair, numbered}
 
 pub turned : (a b : RecipeValue) → AreAlike a b → AreAlike b a
 turned a b h = record {
@@ -50,10 +50,10 @@ any_carried a b names chunk h t =
     let u = p.item in
     let listed : list_any (λ y. u == y) (users_named a chunk) ≡ true = any_passes_from_place (λ y. u == y) (users_named a chunk) _ u p.at (eq-eqb u u refl) in
     let pair : list_any (is_pair u k) a.pairs ≡ true = sym ((users_exact a k h.first).1 u) ∙ listed in
-    let below = pair_below a u k h.first pair in
+    let below = pair_below a u k (keyed a h.first) pair in
     let name : name_at a k ≡ chunk = name_is a k below.chunk ∙ chunk_by_name a chunk below.chunk in
-    let used = uses_of_pair a u k h.first pair in
-    let n = numbered b (file_at a u) chunk h.second ((h.reordered.pairs (file_at a u) chunk).0 (rw name at used)) in
+    let used = uses_of_pair a u k (keyed a h.first) pair in
+    let n = numbered b (file_at a u) chunk (keyed b h.second) ((h.reordered.pairs (file_at a u) chunk).0 (rw name at used)) in
     let v = file_number b.files (file_at a u) in
     let users : list_any (λ y. v == y) (users_named b chunk) ≡ true = (users_exact b (chunk_number b.chunks chunk) h.second).1 v ∙ n.pair in
     any_of (named_set b names) (users_named b chunk) v users (ap names n.file_is ∙ p.passes)
@@ -86,7 +86,7 @@ classes_by_chunk : (r : RecipeValue) → IsRecipe r → (table_of r).classes ≡
 classes_by_chunk r h =
     let none : Class = record { size = 0; users = [] } in
     sym (fill_by_all (chunk_class r) (map (class_of r) r.chunks) (length r.chunks) none (length-map r.chunks (class_of r)) (λ k lt.
-    get_or-map (class_of r) r.chunks k no_chunk none lt ∙ (λ i. record { size = sym (size_is r k lt) i; users = users_of r (number_of_chunk r k h lt i) })))
+    get_or-map (class_of r) r.chunks k no_chunk none lt ∙ (λ i. record { size = sym (size_is r k lt) i; users = users_of r (number_of_chunk r k (keyed r h) lt i) })))
 
 -- what a chunk counts, by a test of its users
 abbrev weighed : RecipeValue → (List ℕ → Bool) → NamedChunk → ℕ

@@ -2,7 +2,7 @@
 use Rattle.std.specs.Prelude.{◌==◌, Contains, All, map}
 use Rattle.std.proofs.Common.{◌≡◌, ◌∙◌, ◌<◌, ℕ, List, [], Some, true, false, refl, sym, ap, subst, length, slice_get, get_or, arith, inl, inr}
 use Rattle.std.specs.Cmp.Lexicographic.{same_text}
-use Rattle.std.specs.List.{list_any}
+use Rattle.std.specs.List.{IsDistinct, list_any}
 use Rattle.std.proofs.lemmas.Bool.{cases_Bool, and_parts, eqb-true}
 use Rattle.std.proofs.lemmas.List.{get_or-map, length-map}
 use Rattle.std.proofs.lemmas.List.Elements.{All-contains}
@@ -19,8 +19,17 @@ use Rattle.recipe_reader.proofs.Sizes.{contains_at}
 abbrev pub no_chunk : NamedChunk
 no_chunk = record { name = []; size = 0 }
 
+-- files and chunks that differ by name, and pairs of them
+pub record IsKeyed (r : RecipeValue) : Type 0 where
+  pub files_differ : IsDistinct is_named r.files
+  pub chunks_differ : IsDistinct (λ (c : NamedChunk). is_chunk c.name) r.chunks
+  pub pairs : All (IsPairBelow (length r.files) (length r.chunks)) r.pairs
+
+pub keyed : (r : RecipeValue) → IsRecipe r → IsKeyed r
+keyed r h = record { files_differ = h.files_differ; chunks_differ = h.chunks_differ; pairs = h.pairs }
+
 -- numbers and names of files
-pub number_of_file : (r : RecipeValue) (file : ℕ) → IsRecipe r → file < length r.files → file_number r.files (file_at r file) ≡ file
+pub number_of_file : (r : RecipeValue) (file : ℕ) → IsKeyed r → file < length r.files → file_number r.files (file_at r file) ≡ file
 number_of_file r file h lt =
     let name = file_at r file in
     sym (number_of_only is_named (is_named name) r.files file name h.files_differ (λ y t. named_equiv.symm y name ∙ t) (slice_get-get_or r.files file [] lt) (named_equiv.refl name)).1
@@ -37,7 +46,7 @@ name_is r chunk lt = get_or-map (λ (c : NamedChunk). c.name) r.chunks chunk no_
 pub size_is : (r : RecipeValue) (chunk : ℕ) → chunk < length r.chunks → size_at r chunk ≡ (get_or r.chunks chunk no_chunk).size
 size_is r chunk lt = get_or-map (λ (c : NamedChunk). c.size) r.chunks chunk no_chunk 0 lt
 
-pub number_of_chunk : (r : RecipeValue) (chunk : ℕ) → IsRecipe r → chunk < length r.chunks → chunk_number r.chunks (get_or r.chunks chunk no_chunk).name ≡ chunk
+pub number_of_chunk : (r : RecipeValue) (chunk : ℕ) → IsKeyed r → chunk < length r.chunks → chunk_number r.chunks (get_or r.chunks chunk no_chunk).name ≡ chunk
 number_of_chunk r chunk h lt =
     let c = get_or r.chunks chunk no_chunk in
     sym (number_of_only (λ (c : NamedChunk). is_chunk c.name) (is_chunk c.name) r.chunks chunk c h.chunks_differ (λ y t. chunk_equiv.symm y c ∙ t) (slice_get-get_or r.chunks chunk no_chunk lt) (chunk_equiv.refl c)).1
@@ -52,7 +61,7 @@ chunk_by_name r name lt = elim (cases_Bool (list_any (is_chunk name) r.chunks)) 
 ]
 
 -- a pair that stands is below the bounds
-pub pair_below : (r : RecipeValue) (file chunk : ℕ) → IsRecipe r → list_any (is_pair file chunk) r.pairs ≡ true → IsPairBelow (length r.files) (length r.chunks) (file, chunk)
+pub pair_below : (r : RecipeValue) (file chunk : ℕ) → IsKeyed r → list_any (is_pair file chunk) r.pairs ≡ true → IsPairBelow (length r.files) (length r.chunks) (file, chunk)
 pair_below r file chunk h any =
     let p = place (is_pair file chunk) r.pairs any in
     let both = and_parts (file == p.item.0) (chunk == p.item.1) p.passes in
@@ -62,7 +71,7 @@ pair_below r file chunk h any =
     record { file = omega (arith, one, below.file); chunk = omega (arith, two, below.chunk) }
 
 -- and it is one by name
-pub uses_of_pair : (r : RecipeValue) (file chunk : ℕ) → IsRecipe r → list_any (is_pair file chunk) r.pairs ≡ true → UsesByName r (file_at r file) (name_at r chunk)
+pub uses_of_pair : (r : RecipeValue) (file chunk : ℕ) → IsKeyed r → list_any (is_pair file chunk) r.pairs ≡ true → UsesByName r (file_at r file) (name_at r chunk)
 uses_of_pair r file chunk h any =
     let p = place (is_pair file chunk) r.pairs any in
     let both = and_parts (file == p.item.0) (chunk == p.item.1) p.passes in
@@ -87,7 +96,7 @@ pub record IsNumbered (r : RecipeValue) (file chunk : List ℕ) : Type 0 where
   pub chunk_below : chunk_number r.chunks chunk < length r.chunks
   pub chunk_is : name_at r (chunk_number r.chunks chunk) ≡ chunk
 
-pub numbered : (r : RecipeValue) (file chunk : List ℕ) → IsRecipe r → UsesByName r file chunk → IsNumbered r file chunk
+pub numbered : (r : RecipeValue) (file chunk : List ℕ) → IsKeyed r → UsesByName r file chunk → IsNumbered r file chunk
 numbered r file chunk h u =
     let p = u.pair in
     let below = All-contains (IsPairBelow (length r.files) (length r.chunks)) r.pairs p h.pairs u.stands in

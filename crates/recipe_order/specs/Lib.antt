@@ -1,5 +1,7 @@
 pub mod Laws
 pub mod Orders
+pub mod Parts
+pub mod Places
 pub mod Reordered
 pub mod Sorted
 pub use Rattle.incidence.specs.Incidences as Incidences

@@ -1,7 +1,7 @@
 -- The files of a recipe in another order.
-use Rattle.std.specs.Prelude.{◌≡◌, ℕ, List, length, map}
+use Rattle.std.specs.Prelude.{◌≡◌, ℕ, List, map}
 use Rattle.std.specs.List.{fold}
-use Rattle.recipe_reader.specs.Recipes.{NamedChunk, RecipeValue, empty_recipe, name_at, size_at, with_file, with_pair}
+use Rattle.recipe_reader.specs.Recipes.{NamedChunk, RecipeValue, empty_recipe, file_number, name_at, size_at, with_file, with_pair}
 use Rattle.recipe_reader.specs.WrittenRows.{chunks_used, file_at}
 use Rattle.recipe_order.specs.Orders.{IsOrder}
 use Rattle.recipe_order.specs.Reordered.{IsReordered}
@@ -10,13 +10,16 @@ use Rattle.recipe_order.specs.Reordered.{IsReordered}
 abbrev pub chunk_at : RecipeValue → ℕ → NamedChunk
 chunk_at recipe chunk = record { name = name_at recipe chunk; size = size_at recipe chunk }
 
--- a recipe once its last file uses these chunks of another one
+-- a recipe once a file of it uses these chunks of another one
 abbrev pub with_chunks_of : RecipeValue → ℕ → RecipeValue → List ℕ → RecipeValue
 with_chunks_of other file recipe chunks = fold (λ r chunk. with_pair r file (chunk_at other chunk)) recipe chunks
 
--- a recipe with a file of another one put last, and its chunks, in the order of the other's pairs
+-- a recipe with a file of another one, and its chunks, in the order of the other's pairs
 abbrev pub with_file_of : RecipeValue → RecipeValue → ℕ → RecipeValue
-with_file_of other recipe file = with_chunks_of other (length recipe.files) (with_file recipe (file_at other file)) (chunks_used other.pairs file)
+with_file_of other recipe file =
+    let name = file_at other file in
+    let named = with_file recipe name in
+    with_chunks_of other (file_number named.files name) named (chunks_used other.pairs file)
 
 -- the files of a recipe in an order; chunks by first appearance in it
 abbrev pub in_order : RecipeValue → List ℕ → RecipeValue

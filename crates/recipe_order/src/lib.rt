@@ -2,5 +2,9 @@
 #![tactic(auto)]
 
 pub mod laws;
+pub mod order;
+pub mod sorting;
 
 pub use laws::{likeness_laws, order_laws};
+pub use order::order_of;
+pub use sorting::sorted;
