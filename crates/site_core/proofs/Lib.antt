@@ -1,0 +1,15 @@
+pub mod Acting
+pub mod Contents
+pub mod Counting
+pub mod Folding
+pub mod Keeping
+pub mod Lasting
+pub mod Lists
+pub mod Maps
+pub mod NextSteps
+pub mod Remaining
+pub mod Shapes
+pub mod Turning
+pub mod Values
+pub mod Views
+pub mod Ways
