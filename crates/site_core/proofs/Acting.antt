@@ -19,8 +19,9 @@ use Rattle.volume_index.proofs.Shapes.{keeps_with_chunk, keeps_with_file}
 use Rattle.site_core.specs.Events.{Append, Shapes, happens_to, append_with, CopiesChunk, IsSpelled}
 use Rattle.site_core.specs.Events.Append.{ToA, ToB, ToJournal}
 use Rattle.site_core.specs.Lasting.{IsKept}
-use Rattle.site_core.specs.Steps.{Step, list_of, next_step, forth, back, remaining}
-use Rattle.site_core.specs.Steps.Step.{Copy, Add, Drop, DropChunk, Finish}
+use Rattle.site_core.specs.Steps.{list_of, next_step, forth, back, remaining}
+use Rattle.site_core.specs.declared.step.Step.{Step}
+use Rattle.site_core.specs.declared.step.Step.TheVariants.{Copy, Add, Drop, DropChunk, Finish}
 use Rattle.site_core.specs.declared.action.Action.{Action}
 use Rattle.site_core.specs.Steps.{next_of}
 use Rattle.site_core.proofs.Keeping.{all_listed, distinct_of, chunk_held, chunk_named, file_named, tidy_from, keeps_less, keeps_unused, may_join, may_folds}

@@ -25,8 +25,9 @@ use Rattle.site_core.specs.Events.{Append, Event, Shapes, shapes_of, happens, ap
 use Rattle.site_core.specs.Events.Append.{ToJournal}
 use Rattle.site_core.specs.Events.Event.{Appends, Reads, Reopens}
 use Rattle.site_core.specs.Lasting.{IsFoldedSite, IsKept, IsRestored, IsSplit, LeavesOne, SameVolumes, StaysOpen, view_after, remaining_of}
-use Rattle.site_core.specs.Steps.{Step, list_of, lacking_names, chunks_to_copy, chunks_to_drop, files_beside, next_step, next_of, forth, back, remaining, steps_left}
-use Rattle.site_core.specs.Steps.Step.{Copy, Add, Drop, DropChunk, Finish}
+use Rattle.site_core.specs.Steps.{list_of, lacking_names, chunks_to_copy, chunks_to_drop, files_beside, next_step, next_of, forth, back, remaining, steps_left}
+use Rattle.site_core.specs.declared.step.Step.{Step}
+use Rattle.site_core.specs.declared.step.Step.TheVariants.{Copy, Add, Drop, DropChunk, Finish}
 use Rattle.site_core.proofs.Acting.{next_acted, no_file, no_chunk, all_home, tidy_home}
 use Rattle.site_core.proofs.Counting.{AreAmong, counts_fit, len_within}
 use Rattle.site_core.proofs.Folding.{folded_kept, shapes_step}

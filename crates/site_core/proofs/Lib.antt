@@ -1,6 +1,7 @@
 pub mod Acting
 pub mod Contents
 pub mod Counting
+pub mod Cursors
 pub mod Folding
 pub mod Keeping
 pub mod Lasting
@@ -8,6 +9,7 @@ pub mod Lists
 pub mod Maps
 pub mod NextSteps
 pub mod Remaining
+pub mod Searching
 pub mod Shapes
 pub mod Turning
 pub mod Values

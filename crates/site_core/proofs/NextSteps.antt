@@ -10,8 +10,9 @@ use Rattle.site_forms.specs.Sites.{HoldsFile, HoldsChunk, IsNamed}
 use Rattle.site_forms.specs.Volumes.{Shape, used}
 use Rattle.volume_index.specs.HoldingValues.{orphans}
 use Rattle.volume_index.proofs.Sets.{listed_passes}
-use Rattle.site_core.specs.Steps.{list_of, lacking_names, chunks_to_copy, Step, first_step, next_step}
-use Rattle.site_core.specs.Steps.Step.{Copy, Add, Drop, DropChunk, Finish}
+use Rattle.site_core.specs.Steps.{list_of, lacking_names, chunks_to_copy, first_step, next_step}
+use Rattle.site_core.specs.declared.step.Step.{Step}
+use Rattle.site_core.specs.declared.step.Step.TheVariants.{Copy, Add, Drop, DropChunk, Finish}
 use Rattle.site_core.proofs.Maps.{key_held, held_key}
 use Rattle.site_core.proofs.Lists.{first_listed, none_first, listed_at, in_flat, into_flat, none_passes}
 

@@ -21,8 +21,9 @@ use Rattle.site_core.specs.declared.action.Action.TheVariants.{CopyToB, AddToB, 
 use Rattle.site_core.specs.Events.{Append, shapes_of, happens, append_of, copied_bytes, next_action_of, CopiesChunk, MayBeIdle, IsDigest, IsNamedByDigest, IsSpelled, IsTurn, MayAppend, MayAppendTo}
 use Rattle.site_core.specs.Events.Append.{ToA, ToB, ToJournal}
 use Rattle.site_core.specs.Lasting.{IsFoldedSite, IsKept}
-use Rattle.site_core.specs.Steps.{Step, next_step, next_of, forth, back}
-use Rattle.site_core.specs.Steps.Step.{Copy, Add, Drop, DropChunk, Finish}
+use Rattle.site_core.specs.Steps.{next_step, next_of, forth, back}
+use Rattle.site_core.specs.declared.step.Step.{Step}
+use Rattle.site_core.specs.declared.step.Step.TheVariants.{Copy, Add, Drop, DropChunk, Finish}
 use Rattle.site_core.proofs.Acting.{Acted, next_acted}
 use Rattle.site_core.proofs.Contents.{or_value, chunks_after}
 use Rattle.site_core.proofs.Folding.{folded_kept, folded_more, shapes_step}

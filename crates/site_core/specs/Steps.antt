@@ -8,6 +8,8 @@ use Rattle.site_forms.specs.Names.{is_listed}
 use Rattle.site_forms.specs.Volumes.{bytes_cmp, VolumeOf, Shape, Files, used, distinct_count}
 use Rattle.volume_index.specs.HoldingValues.{orphans}
 use Rattle.site_core.specs.declared.action.Action.{Action}
+use Rattle.site_core.specs.declared.step.Step.{Step}
+use Rattle.site_core.specs.declared.step.Step.TheVariants.{Copy, Add, Drop, DropChunk, Finish}
 use Rattle.site_core.specs.declared.action.Action.TheVariants.{CopyToB, AddToB, DropFromA, DropChunkA, Moved as RecordMoved, CopyToA, AddToA, DropFromB, DropChunkB, Undone}
 
 module _ {X : Type 0} where
@@ -34,14 +36,6 @@ files_beside volume names = map.retain_keys volume.files (λ name. not (is_liste
 -- what is to be dropped in the end: the chunks of the source that only named files use, or none
 abbrev pub chunks_to_drop : Shape → List (List ℕ) → map.FinMap bytes_cmp ℕ
 chunks_to_drop source names = map.retain_keys source.chunks (λ chunk. not (map.contains_key (used (files_beside source names)) chunk))
-
--- one action, from a source to a target
-pub data Step : Type 0 where
-  Copy : (chunk : List ℕ) → Step
-  Add : (place : ℕ) → Step
-  Drop : (place : ℕ) → Step
-  DropChunk : (chunk : List ℕ) → Step
-  Finish : Step
 
 -- the first that there is of: a chunk to copy, a file to add, a file to drop, a chunk to drop; else the end
 abbrev pub first_step : Option (List ℕ) → Option ℕ → Option ℕ → Option (List ℕ) → Step

@@ -6,6 +6,8 @@ ghost use Rattle.site_forms.specs.JournalRecords.{JournalRecord};
 ghost use Rattle.site_forms.specs.JournalRecords.JournalRecord.{BeginRecord, UndoneRecord};
 ghost use Rattle.site_forms.specs.Views.{State, view, origin};
 ghost use Rattle.site_core.specs.declared.action.Action.{Action};
+ghost use Rattle.site_core.specs.declared.cursor.Cursor.{Cursor};
+ghost use Rattle.site_core.specs.Cursors.{IsCursorOf};
 ghost use Rattle.site_core.specs.Events.{Append, Event, Shapes, shapes_of, append_of, append_with, next_action_of, happens, happens_to, CopiesChunk, MayAppend, MayAppendTo, Allowed, AreAllowed, after, after_all};
 ghost use Rattle.site_core.specs.Events.Append.{ToJournal};
 ghost use Rattle.site_core.specs.Events.Event.{Appends};
@@ -44,6 +46,9 @@ pub fn memory_laws()
     // each next action leaves one action less, of fewer than 2^22
     ensures next { (t : Shapes) (action : Action) (bytes : List ℕ) → IsKept t → next_of t.a t.b t.phase ≡ Some action → CopiesChunk action bytes → LeavesOne t (append_with t.a t.b t.phase bytes action) }
     ensures few { (t : Shapes) → IsKept t → remaining t.a t.b t.phase < 2 ^ 22 }
+    // over which a cursor stays right
+    ensures cursor { (t next : Shapes) (c : Cursor) (action : Action) (bytes : List ℕ) → next_of t.a t.b t.phase ≡ Some action → happens_to t (append_with t.a t.b t.phase bytes action) ≡ Some next
+        → IsCursorOf t.a t.b t.phase c → IsCursorOf next.a next.b next.phase c }
     // records do to volumes in memory what they do to those of a state
     ensures step { (s : State) (x : Append) → happens_to (shapes_of s) x ≡ option_map shapes_of (happens s x) }
     ensures kept { (s : State) → IsFoldedSite s → IsKept (shapes_of s) }

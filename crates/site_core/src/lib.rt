@@ -2,7 +2,15 @@
 #![tactic(auto)]
 
 pub mod action;
+pub mod cursor;
 pub mod laws;
+pub mod next;
+mod search;
+pub mod state;
+mod step;
 
 pub use action::Action;
+pub use cursor::Cursor;
 pub use laws::{memory_laws, site_laws};
+pub use next::{next_action, next_from};
+pub use state::SiteState;
