@@ -1,6 +1,10 @@
-//! Tests of the judge of certificates.
+//! Tests of certificates: their text, their numbers and their judge.
 #![tactic(auto)]
 
+#[cfg(test)]
+mod documents;
+#[cfg(test)]
+mod fractions;
 #[cfg(test)]
 mod generated;
 #[cfg(test)]

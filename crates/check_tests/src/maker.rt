@@ -4,8 +4,7 @@ ghost use Rattle.std.specs.Prelude.{◌≤◌};
 use crate::plain::{Case, SmallNode, closes, is_member, is_mix};
 use crate::sets::{SmallClass, all_files, bit, first_difference, first_of, migrated, replicated};
 use bound_cert::Give;
-use std::alloc::Global;
-use std::test::Fail;
+use std::alloc::{AllocError, Global};
 
 /// Numbers that are the same in each run.
 #[derive(Drop)]
@@ -31,22 +30,34 @@ impl Numbers {
     }
 }
 
+/// Puts a text that was made behind another; none is want of memory.
+fn put(out: &mut String, text: Result<String, AllocError>) -> Option<()> {
+    let text = text.ok()?;
+    out.push_str(text.as_str()).ok()
+}
+
+/// The rows of a chunk, whose users are the lowest four bits, or the first file where these are 0.
+fn put_rows(alloc: Global, chunk: u64, size: u64, users: u64, out: &mut String) -> Option<()> {
+    for file in 0..4u32 {
+        if users & u64::from(bit(file + 4)) != 0 || (users == 0 && file == 0) {
+            put(out, format!(in alloc; "f{file},0{chunk},{size}\n"))?;
+        }
+    }
+    Some(())
+}
+
 /// A recipe of at most four files and six chunks.
-pub fn recipe_text(alloc: Global, numbers: &mut Numbers) -> Result<String, Fail> {
+pub fn recipe_text(alloc: Global, numbers: &mut Numbers) -> Option<String> {
     let mut text = String::new(alloc);
     let chunks = numbers.up_to(5);
     for chunk in 0..6u64 {
         let size = numbers.up_to(29);
         let users = numbers.up_to(15);
         if chunk <= chunks {
-            for file in 0..4u32 {
-                if users & u64::from(bit(file + 4)) != 0 || (users == 0 && file == 0) {
-                    text.push_str(format!(in alloc; "f{file},0{chunk},{size}\n")?.as_str())?;
-                }
-            }
+            put_rows(alloc, chunk, size, users, &mut text)?;
         }
     }
-    Ok(text)
+    Some(text)
 }
 
 /// The slopes of multipliers that are tried.
@@ -62,48 +73,52 @@ const SLOPES: [(u64, u64); 9] = [
     (1, 5),
 ];
 
+/// What a file gives or is given of a class, where it is this one.
+fn part(given: Option<u32>, file: u32, size: u128, times: u64) -> u128 {
+    if given == Some(file) {
+        size.wrapping_mul(u128::from(times))
+    } else {
+        0
+    }
+}
+
+/// The files of a class that are charged and rewarded, so that it costs little at the members of a node.
+fn charged_and_rewarded(of: SmallClass, node: SmallNode) -> (Option<u32>, Option<u32>) {
+    let free = first_of(of.users & !node.inside & !node.outside);
+    let kept = first_of(of.users & node.outside);
+    let put = first_of(of.users & node.inside);
+    let charged = match (put, kept) {
+        (Some(file), _) => Some(file),
+        (None, None) => free,
+        (None, Some(_)) => None,
+    };
+    (charged, kept.or(put).or(free))
+}
+
 /// Gives of a class, which cost little at the members of a node.
 fn push_gives(
     gives: &mut Vec<Give>,
     class: u32,
     of: SmallClass,
     node: SmallNode,
-    p: u64,
-    q: u64,
-) -> Result<(), Fail> {
-    let size = u128::try_from(of.size)?;
-    let free = of.users & !node.inside & !node.outside;
-    let (kept, put) = (
-        first_of(of.users & node.outside),
-        first_of(of.users & node.inside),
-    );
-    let charged = match (put, kept) {
-        (Some(file), _) => Some(file),
-        (None, None) => first_of(free),
-        (None, Some(_)) => None,
-    };
-    let rewarded = kept.or(put).or(first_of(free));
+    slope: (u64, u64),
+) -> Option<()> {
+    let size = u128::try_from(of.size).unwrap_or(0);
+    let (charged, rewarded) = charged_and_rewarded(of, node);
     for file in 0..8u32 {
-        let charge = if charged == Some(file) {
-            size.wrapping_mul(u128::from(q))
-        } else {
-            0
-        };
-        let reward = if rewarded == Some(file) {
-            size.wrapping_mul(u128::from(p))
-        } else {
-            0
-        };
+        let charge = part(charged, file, size, slope.1);
+        let reward = part(rewarded, file, size, slope.0);
         if charge != 0 || reward != 0 {
-            gives.push(Give {
+            let give = Give {
                 class,
                 file,
                 charge,
                 reward,
-            })?;
+            };
+            gives.push(give).ok()?;
         }
     }
-    Ok(())
+    Some(())
 }
 
 /// The gives of all classes at a node.
@@ -111,42 +126,60 @@ fn gives_of(
     alloc: Global,
     case: &Case<'_>,
     node: SmallNode,
-    p: u64,
-    q: u64,
-) -> Result<Vec<Give>, Fail> {
+    slope: (u64, u64),
+) -> Option<Vec<Give>> {
     let mut gives = Vec::new(alloc);
-    for (class, of) in case.classes.iter().enumerate() {
-        push_gives(&mut gives, u32::try_from(class)?, *of, node, p, q)?;
+    let mut class = 0u32;
+    for of in case.classes {
+        push_gives(&mut gives, class, *of, node, slope)?;
+        class = class.wrapping_add(1);
     }
-    Ok(gives)
+    Some(gives)
 }
 
-/// Writes a leaf with multipliers that close a node, where some that are tried do.
-fn write_leaf(
+/// Puts the lines of some gives.
+fn put_gives(alloc: Global, gives: &[Give], out: &mut String) -> Option<()> {
+    for Give {
+        class,
+        file,
+        charge,
+        reward,
+    } in gives {
+        put(
+            out,
+            format!(in alloc; "give {class} {file} {charge} {reward}\n"),
+        )?;
+    }
+    Some(())
+}
+
+/// Writes a leaf with these multipliers, where they close a node.
+fn write_closing(
     alloc: Global,
     case: &Case<'_>,
     node: SmallNode,
+    slope: (u64, u64),
     out: &mut String,
-) -> Result<bool, Fail> {
-    for (p, q) in SLOPES {
-        let gives = gives_of(alloc, case, node, p, q)?;
-        if closes(case, p, q, gives.as_slice(), node) {
-            let count = gives.len();
-            out.push_str(format!(in alloc; "bound {p} {q} {count}\n")?.as_str())?;
-            for Give {
-                class,
-                file,
-                charge,
-                reward,
-            } in gives {
-                out.push_str(format!(in alloc;
-                    "give {class} {file} {charge} {reward}\n"
-                )?.as_str())?;
-            }
-            return Ok(true);
+) -> Option<bool> {
+    let gives = gives_of(alloc, case, node, slope)?;
+    let (p, q) = slope;
+    if !closes(case, p, q, gives.as_slice(), node) {
+        return Some(false);
+    }
+    let count = gives.len();
+    put(out, format!(in alloc; "bound {p} {q} {count}\n"))?;
+    put_gives(alloc, gives.as_slice(), out)?;
+    Some(true)
+}
+
+/// Writes a leaf with multipliers that close a node, where some that are tried do.
+fn write_leaf(alloc: Global, case: &Case<'_>, node: SmallNode, out: &mut String) -> Option<bool> {
+    for slope in SLOPES {
+        if write_closing(alloc, case, node, slope, out)? {
+            return Some(true);
         }
     }
-    Ok(false)
+    Some(false)
 }
 
 /// Two different members of a node with weights that are a mix.
@@ -173,58 +206,70 @@ fn mix_of(case: &Case<'_>, node: SmallNode) -> Option<(u8, u8, i64, i64)> {
     None
 }
 
-/// Writes the line of a branching, and answers its file.
-fn write_branch(
+/// Writes the line of a branching, and answers its file; none where the node has no such mix.
+fn write_branch(alloc: Global, case: &Case<'_>, node: SmallNode, out: &mut String) -> Option<u32> {
+    let (one, other, alpha, beta) = mix_of(case, node)?;
+    let file = first_difference(one, other)?;
+    put(
+        out,
+        format!(in alloc; "branch {file} {one:02x} {other:02x} {alpha} {beta}\n"),
+    )?;
+    Some(file)
+}
+
+/// Writes the line of a low node, of a high one or of a leaf; false where it is to be branched.
+fn write_end(alloc: Global, case: &Case<'_>, node: SmallNode, out: &mut String) -> Option<bool> {
+    if migrated(case.classes, case.full & !node.outside) < case.low {
+        out.push_str("low\n").ok()?;
+        return Some(true);
+    }
+    if migrated(case.classes, node.inside) > case.high {
+        out.push_str("high\n").ok()?;
+        return Some(true);
+    }
+    write_leaf(alloc, case, node, out)
+}
+
+/// The two nodes of a branching, the one without the file last.
+fn children(node: SmallNode, file: u32) -> [SmallNode; 2] {
+    [
+        SmallNode {
+            inside: node.inside | bit(file),
+            outside: node.outside,
+        },
+        SmallNode {
+            inside: node.inside,
+            outside: node.outside | bit(file),
+        },
+    ]
+}
+
+/// Writes the next node, and puts its children where it is branched.
+fn write_node(
     alloc: Global,
     case: &Case<'_>,
     node: SmallNode,
+    waiting: &mut Vec<SmallNode>,
     out: &mut String,
-) -> Result<Option<u32>, Fail> {
-    let Some((one, other, alpha, beta)) = mix_of(case, node) else {
-        return Ok(None);
-    };
-    let Some(file) = first_difference(one, other) else {
-        return Ok(None);
-    };
-    out.push_str(format!(in alloc;
-        "branch {file} {one:02x} {other:02x} {alpha} {beta}\n"
-    )?.as_str())?;
-    Ok(Some(file))
+) -> Option<()> {
+    if !write_end(alloc, case, node, out)? {
+        let file = write_branch(alloc, case, node, out)?;
+        waiting.extend_from_slice(&children(node, file)).ok()?;
+    }
+    Some(())
 }
 
 /// Writes a tree, its nodes in order: low and high ones where they are, leaves where multipliers are found, and
-/// branchings elsewhere. It answers whether all nodes were closed.
-fn write_tree(
-    alloc: Global,
-    case: &Case<'_>,
-    root: SmallNode,
-    out: &mut String,
-) -> Result<bool, Fail> {
-    let mut waiting = Vec::new(alloc);
-    waiting.push(root)?;
+/// branchings elsewhere. None where not all nodes are closed.
+fn write_tree(alloc: Global, case: &Case<'_>, root: SmallNode, out: &mut String) -> Option<()> {
+    let mut waiting = Vec::from_slice(alloc, &[root]).ok()?;
     for _ in 0..64 {
-        let Some(node) = waiting.pop() else {
-            return Ok(true);
-        };
-        if migrated(case.classes, case.full & !node.outside) < case.low {
-            out.push_str("low\n")?;
-        } else if migrated(case.classes, node.inside) > case.high {
-            out.push_str("high\n")?;
-        } else if !write_leaf(alloc, case, node, out)? {
-            let Some(file) = write_branch(alloc, case, node, out)? else {
-                return Ok(false);
-            };
-            waiting.push(SmallNode {
-                inside: node.inside | bit(file),
-                outside: node.outside,
-            })?;
-            waiting.push(SmallNode {
-                inside: node.inside,
-                outside: node.outside | bit(file),
-            })?;
+        match waiting.pop() {
+            Some(node) => write_node(alloc, case, node, &mut waiting, out)?,
+            None => return Some(()),
         }
     }
-    Ok(waiting.is_empty())
+    None
 }
 
 /// The admitted set that replicates least.
@@ -255,25 +300,51 @@ fn write_answer(
     root: SmallNode,
     less: i64,
     out: &mut String,
-) -> Result<(), Fail> {
+) -> Option<()> {
     let Some(set) = best_of(case, root) else {
-        out.push_str("answer infeasible\nplan none\nbound none\n")?;
-        return Ok(());
+        return out
+            .push_str("answer infeasible\nplan none\nbound none\n")
+            .ok();
     };
     let (moved, copied) = (migrated(case.classes, set), replicated(case.classes, set));
-    let bound = copied.wrapping_sub(less);
-    if less == 0 || bound < 0 {
-        case.bound = Some(copied);
-        out.push_str(format!(in alloc;
-            "answer optimal\nplan {set:02x} {moved} {copied}\nbound {copied}\n"
-        )?.as_str())?;
+    let lower = copied.wrapping_sub(less);
+    let is_open = less != 0 && 0 <= lower;
+    let (word, bound) = if is_open {
+        ("open", lower)
     } else {
-        case.bound = Some(bound);
-        out.push_str(format!(in alloc;
-            "answer open\nplan {set:02x} {moved} {copied}\nbound {bound}\n"
-        )?.as_str())?;
+        ("optimal", copied)
+    };
+    case.bound = Some(bound);
+    put(
+        out,
+        format!(in alloc; "answer {word}\nplan {set:02x} {moved} {copied}\nbound {bound}\n"),
+    )
+}
+
+/// Two sets of files that are pinned, in one case of four.
+fn drawn_pins(full: u8, numbers: &mut Numbers) -> Option<SmallNode> {
+    let inside = bit(numbers.up_to(15) as u32) & full;
+    let outside = bit(numbers.up_to(15) as u32) & full;
+    if numbers.up_to(3) == 0 && inside & outside == 0 {
+        Some(SmallNode { inside, outside })
+    } else {
+        None
     }
-    Ok(())
+}
+
+/// The first lines of a document.
+fn first_lines(
+    alloc: Global,
+    low: u64,
+    high: u64,
+    pins: Option<SmallNode>,
+) -> Result<String, AllocError> {
+    match pins {
+        Some(SmallNode { inside, outside }) => format!(in alloc;
+            "goseed 2\nrange {low} {high}\npins {inside:02x} {outside:02x}\n"
+        ),
+        None => format!(in alloc; "goseed 1\nrange {low} {high}\n"),
+    }
 }
 
 /// The text of a valid certificate for a table of so many files, at most four, and these classes; none where multipliers
@@ -283,41 +354,26 @@ pub fn certificate(
     files: u32,
     classes: &[SmallClass],
     numbers: &mut Numbers,
-) -> Result<Option<String>, Fail> {
+) -> Option<String> {
     let full = all_files(files);
     let low = numbers.up_to(60);
     let high = low + numbers.up_to(20);
-    let (go, stay) = (
-        bit(numbers.up_to(15) as u32) & full,
-        bit(numbers.up_to(15) as u32) & full,
-    );
-    let pinned = numbers.up_to(3) == 0 && go & stay == 0;
-    let root = if pinned {
-        SmallNode {
-            inside: go,
-            outside: stay,
-        }
-    } else {
-        SmallNode {
-            inside: 0,
-            outside: 0,
-        }
-    };
-    let mut out = if pinned {
-        format!(in alloc; "goseed 2\nrange {low} {high}\npins {go:02x} {stay:02x}\n")?
-    } else {
-        format!(in alloc; "goseed 1\nrange {low} {high}\n")?
-    };
+    let pins = drawn_pins(full, numbers);
+    let less = numbers.up_to(2) as i64;
+    let root = pins.unwrap_or(SmallNode {
+        inside: 0,
+        outside: 0,
+    });
     let mut case = Case {
         classes,
         full,
-        low: i64::try_from(low)?,
-        high: i64::try_from(high)?,
+        low: low as i64,
+        high: high as i64,
         bound: None,
     };
-    let less = i64::try_from(numbers.up_to(2))?;
+    let mut out = first_lines(alloc, low, high, pins).ok()?;
     write_answer(alloc, &mut case, root, less, &mut out)?;
-    let is_closed = write_tree(alloc, &case, root, &mut out)?;
-    out.push_str("end\n")?;
-    Ok(if is_closed { Some(out) } else { None })
+    write_tree(alloc, &case, root, &mut out)?;
+    out.push_str("end\n").ok()?;
+    Some(out)
 }

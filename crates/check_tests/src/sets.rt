@@ -2,7 +2,6 @@
 use bound_cert::SetText;
 use seed_model::Table;
 use std::alloc::Global;
-use std::test::Fail;
 
 const BITS: [u8; 8] = [128, 64, 32, 16, 8, 4, 2, 1];
 
@@ -66,18 +65,24 @@ pub struct SmallClass {
     pub users: u8,
 }
 
+/// The set of some users.
+fn set_of_users(users: &[u32]) -> u8 {
+    let mut set = 0u8;
+    for file in users {
+        set |= bit(*file);
+    }
+    set
+}
+
 /// The classes of a table of at most eight files.
-pub fn classes_of(alloc: Global, table: &Table) -> Result<Vec<SmallClass>, Fail> {
+pub fn classes_of(alloc: Global, table: &Table) -> Option<Vec<SmallClass>> {
     let mut classes = Vec::new(alloc);
     for class in table.class_list() {
-        let mut users = 0u8;
-        for file in class.users.list() {
-            users |= bit(*file);
-        }
-        let size = i64::try_from(class.size)?;
-        classes.push(SmallClass { size, users })?;
+        let size = i64::try_from(class.size).unwrap_or(i64::MAX);
+        let users = set_of_users(class.users.list());
+        classes.push(SmallClass { size, users }).ok()?;
     }
-    Ok(classes)
+    Some(classes)
 }
 
 /// The bytes of the classes all of whose users are in the set.

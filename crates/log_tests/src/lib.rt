@@ -7,3 +7,5 @@ mod counts;
 mod halves;
 #[cfg(test)]
 mod logs;
+#[cfg(test)]
+mod racks;

@@ -3,7 +3,6 @@ ghost use Rattle.std.specs.Prelude.{◌≤◌};
 
 use std::alloc::Global;
 use std::fs;
-use std::test::Fail;
 use volume_disk::{FolderRack, MemRack, Pick, Rack, hand_over};
 
 /// A call of a rack that answers no bytes. A device is numbered 0 to 5.
@@ -78,19 +77,45 @@ fn pending(alloc: Global) -> Option<MemRack> {
     }
 }
 
-#[test]
-fn reads_what_was_written(rt: HostRuntime) -> Result<(), Fail> {
-    let mut rack = pending(rt.alloc()).ok_or("memory")?;
-    assert!(rt; holds(&rack, &[b"abX\0\0\0!", b"ab", b"p"]));
-    assert!(rt; rack.size(0) == Ok(7));
-    // No byte behind the end.
-    assert!(rt; reads(&mut rack, 0, 5, 2, *b"\0!\x09\x09\x09\x09\x09\x09"));
-    assert!(rt; reads(&mut rack, 0, 7, 0, [9; 8]));
-    Ok(())
+/// Whether the devices read as what was written, and no byte behind an end.
+fn reads_written(rack: &mut MemRack) -> bool {
+    holds(rack, &[b"abX\0\0\0!", b"ab", b"p"])
+        && rack.size(0) == Ok(7)
+        && reads(rack, 0, 5, 2, *b"\0!\x09\x09\x09\x09\x09\x09")
+        && reads(rack, 0, 7, 0, [9; 8])
+}
+
+/// Whether a check of a rack holds on one on which calls are pending.
+fn reads_pending(alloc: Global) -> bool {
+    let Some(mut rack) = pending(alloc) else {
+        return false;
+    };
+    reads_written(&mut rack)
 }
 
 #[test]
-fn a_crash_leaves_old_bytes_new_bytes_or_junk(rt: HostRuntime) -> Result<(), Fail> {
+fn reads_what_was_written(rt: HostRuntime) {
+    assert!(rt; reads_pending(rt.alloc()));
+}
+
+/// Whether a crash leaves these images, and nothing pending.
+fn leaves(rack: &mut MemRack, pick: Pick, images: &[&[u8]]) -> bool {
+    rack.crash(pick);
+    let after_one = holds(rack, images);
+    rack.crash(Pick::Old);
+    after_one && holds(rack, images)
+}
+
+/// Whether a crash of a rack on which calls are pending leaves these images.
+fn leaves_of_pending(alloc: Global, pick: Pick, images: &[&[u8]]) -> bool {
+    let Some(mut rack) = pending(alloc) else {
+        return false;
+    };
+    leaves(&mut rack, pick, images)
+}
+
+#[test]
+fn a_crash_leaves_old_bytes_new_bytes_or_junk(rt: HostRuntime) {
     let cases: [(Pick, &[&[u8]]); 3] = [
         (Pick::Old, &[b"abc", b"ab", b""]),
         // The second device was cut, and never written; the third was written, and then cut.
@@ -98,43 +123,49 @@ fn a_crash_leaves_old_bytes_new_bytes_or_junk(rt: HostRuntime) -> Result<(), Fai
         (Pick::Junk(b'?'), &[b"ab?????", b"ab????", b"????"]),
     ];
     for (pick, images) in cases {
-        let mut rack = pending(rt.alloc()).ok_or("memory")?;
-        rack.crash(pick);
-        let after_one = holds(&rack, images);
-        rack.crash(Pick::Old);
-        assert!(rt;
-            after_one && holds(&rack, images),
-            "nothing is pending after a crash"
-        );
+        assert!(rt; leaves_of_pending(rt.alloc(), pick, images));
     }
-    Ok(())
 }
 
-#[test]
-fn failed_calls(rt: HostRuntime) -> Result<(), Fail> {
-    let mut listed = Vec::new(rt.alloc());
-    listed.push(2)?;
-    let mut rack = MemRack::new(rt.alloc(), 8, 20, 40, listed).ok_or("memory")?;
-    assert!(rt; fail_at(&mut rack, &[Write(0, 0, "ab"), Sync(0)], &[2]));
+/// A rack of so much room, calls and bytes on which one call fails.
+fn failing(alloc: Global, room: usize, calls: usize, bytes: usize, call: u64) -> Option<MemRack> {
+    let listed = Vec::from_slice(alloc, &[call]).ok()?;
+    MemRack::new(alloc, room, calls, bytes, listed)
+}
+
+/// Whether calls fail that are listed or behind a stop, and what was written is there.
+fn fails_and_stops(rack: &mut MemRack) -> bool {
+    let before = fail_at(rack, &[Write(0, 0, "ab"), Sync(0)], &[2]);
     rack.stop_at(4);
     let calls = [Write(0, 1, "c"), Write(0, 2, "d"), Cut(1, 1), Size(0)];
-    assert!(rt; fail_at(&mut rack, &calls, &[2, 3, 4]), "stopped");
+    let stopped = fail_at(rack, &calls, &[2, 3, 4]);
     rack.crash(Pick::New);
-    assert!(rt; holds(&rack, &[b"acd"]), "the failed write was done");
-    assert!(rt;
-        fail_at(&mut rack, &[Write(0, 3, "e")], &[]),
-        "no stop after a crash"
-    );
-    rack.crash(Pick::Old);
-    assert!(rt; holds(&rack, &[b"acd"]));
-    Ok(())
+    // the failed write was done
+    before && stopped && holds(rack, &[b"acd"])
+}
+
+/// Whether a crash ends the stop and cleans the record.
+fn starts_anew(rack: &mut MemRack, call: Call, images: &[&[u8]]) -> bool {
+    fail_at(rack, &[call], &[]) && holds(rack, images)
+}
+
+/// Whether calls fail as they are listed, and no longer after a crash.
+fn fails_once(alloc: Global) -> bool {
+    let Some(mut rack) = failing(alloc, 8, 20, 40, 2) else {
+        return false;
+    };
+    fails_and_stops(&mut rack)
+        && starts_anew(&mut rack, Write(0, 3, "e"), &[b"acde"])
+        && leaves(&mut rack, Pick::Old, &[b"acd"])
 }
 
 #[test]
-fn refused_calls(rt: HostRuntime) -> Result<(), Fail> {
-    let mut listed = Vec::new(rt.alloc());
-    listed.push(5)?;
-    let mut rack = MemRack::new(rt.alloc(), 4, 4, 5, listed).ok_or("memory")?;
+fn failed_calls(rt: HostRuntime) {
+    assert!(rt; fails_once(rt.alloc()));
+}
+
+/// Whether calls are refused for which a rack has no room.
+fn refuses_calls(rack: &mut MemRack) -> bool {
     let calls = [
         // behind the room
         Write(0, 3, "ab"),
@@ -148,45 +179,70 @@ fn refused_calls(rt: HostRuntime) -> Result<(), Fail> {
         // too many calls
         Size(0),
     ];
-    assert!(rt; fail_at(&mut rack, &calls, &[1, 3, 5, 7]));
-    assert!(rt; holds(&rack, &[b"abcd", b"e"]));
+    let refused = fail_at(rack, &calls, &[1, 3, 5, 7]) && holds(rack, &[b"abcd", b"e"]);
     rack.crash(Pick::New);
-    assert!(rt;
-        fail_at(&mut rack, &[Write(1, 1, "fgh")], &[]),
-        "a clean record"
-    );
-    assert!(rt; holds(&rack, &[b"abcd", b"efgh"]));
-    Ok(())
+    refused && starts_anew(rack, Write(1, 1, "fgh"), &[b"abcd", b"efgh"])
+}
+
+/// Whether a small rack refuses calls.
+fn refuses_on_small(alloc: Global) -> bool {
+    let Some(mut rack) = failing(alloc, 4, 4, 5, 5) else {
+        return false;
+    };
+    refuses_calls(&mut rack)
 }
 
 #[test]
-fn another_image(rt: HostRuntime) -> Result<(), Fail> {
-    let mut rack = MemRack::new(rt.alloc(), 4, 9, 9, Vec::new(rt.alloc())).ok_or("memory")?;
-    rack.set_image(3, b"abc");
-    rack.write(4, 0, b"x")?;
-    assert!(rt; holds(&rack, &[b"", b"", b"", b"abc"]));
-    rack.crash(Pick::Old);
-    assert!(rt; holds(&rack, &[b"", b"", b"", b"abc", b""]));
-    Ok(())
+fn refused_calls(rt: HostRuntime) {
+    assert!(rt; refuses_on_small(rt.alloc()));
+}
+
+/// A rack with another image on a device.
+fn with_image(alloc: Global, device: u8, image: &[u8]) -> Option<MemRack> {
+    let mut rack = MemRack::new(alloc, 4, 9, 9, Vec::new(alloc))?;
+    if 5 < device || 4 < image.len() {
+        return None;
+    }
+    rack.set_image(device, image);
+    Some(rack)
+}
+
+/// Whether a device keeps its image, and another what was pending there.
+fn keeps_others(alloc: Global) -> bool {
+    let Some(mut rack) = with_image(alloc, 3, b"abc") else {
+        return false;
+    };
+    starts_anew(&mut rack, Write(4, 0, "x"), &[b"", b"", b"", b"abc"])
+        && leaves(&mut rack, Pick::Old, &[b"", b"", b"", b"abc", b""])
 }
 
 #[test]
-fn hands_over(rt: HostRuntime) -> Result<(), Fail> {
-    let mut rack = MemRack::new(rt.alloc(), 4, 9, 9, Vec::new(rt.alloc())).ok_or("memory")?;
-    rack.set_image(0, b"abc");
-    hand_over(&mut rack, 0, 1, b"abc")?;
-    assert!(rt; holds(&rack, &[b"", b"abc"]));
-    rack.crash(Pick::Old);
-    assert!(rt;
-        holds(&rack, &[b"", b"abc"]),
-        "a cut that is pending never lengthens"
-    );
-    Ok(())
+fn another_image(rt: HostRuntime) {
+    assert!(rt; keeps_others(rt.alloc()));
+}
+
+/// Whether a device's bytes are handed over to another one, and never more of them.
+fn hands(rack: &mut MemRack) -> bool {
+    hand_over(rack, 0, 1, b"abc").is_ok()
+        && holds(rack, &[b"", b"abc"])
+        && leaves(rack, Pick::Old, &[b"", b"abc"])
+}
+
+/// Whether a device is handed over on a rack in memory.
+fn hands_in_memory(alloc: Global) -> bool {
+    let Some(mut rack) = with_image(alloc, 0, b"abc") else {
+        return false;
+    };
+    hands(&mut rack)
 }
 
 #[test]
-fn files_of_a_folder(rt: HostRuntime) -> Result<(), Fail> {
-    let mut rack = FolderRack::new(&rt);
+fn hands_over(rt: HostRuntime) {
+    assert!(rt; hands_in_memory(rt.alloc()));
+}
+
+/// Whether the file of a device is cut and written as it is asked for.
+fn writes_file<R: Rack>(rack: &mut R) -> bool {
     let calls = [
         Cut(5, 0),
         Write(5, 2, "abc"),
@@ -198,9 +254,12 @@ fn files_of_a_folder(rt: HostRuntime) -> Result<(), Fail> {
         Write(5, 2, ""),
         Write(5, 6, ""),
     ];
-    assert!(rt; fail_at(&mut rack, &calls, &[]));
-    assert!(rt; reads(&mut rack, 5, 0, 6, *b"\0\0a\0\0\0\x09\x09"));
-    fs::remove_file(&rt, "goseed.site/5")?;
-    fs::remove_dir(&rt, "goseed.site")?;
-    Ok(())
+    fail_at(rack, &calls, &[]) && reads(rack, 5, 0, 6, *b"\0\0a\0\0\0\x09\x09")
+}
+
+#[test]
+fn files_of_a_folder(rt: HostRuntime) {
+    assert!(rt; writes_file(&mut FolderRack::new(&rt)));
+    assert!(rt; fs::remove_file(&rt, "goseed.site/5").is_ok());
+    assert!(rt; fs::remove_dir(&rt, "goseed.site").is_ok());
 }

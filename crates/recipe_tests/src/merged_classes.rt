@@ -1,15 +1,24 @@
 // Worked recipes.
 use chunk_merge::merge;
 use incidence::Incidence;
-use recipe_reader::read_recipe;
+use recipe_reader::{Recipe, read_recipe};
 use seed_model::Table;
 use std::alloc::Global;
-use std::test::Fail;
 
-fn table_of(alloc: Global, text: &[u8]) -> Result<Table, Fail> {
-    let recipe = read_recipe(alloc, text)?;
-    let incidence = Incidence::of(alloc, &recipe)?;
-    Ok(merge(alloc, &incidence)?)
+/// The table of a recipe; none is want of memory.
+fn table_in(alloc: Global, recipe: &Recipe) -> Option<Table> {
+    match Incidence::of(alloc, recipe) {
+        Ok(incidence) => merge(alloc, &incidence).ok(),
+        Err(_) => None,
+    }
+}
+
+/// The table of a text; none where it is refused.
+fn table_of(alloc: Global, text: &[u8]) -> Option<Table> {
+    match read_recipe(alloc, text) {
+        Ok(recipe) => table_in(alloc, &recipe),
+        Err(_) => None,
+    }
 }
 
 /// Whether a table has these classes, each by its size and its users, and no others.
@@ -24,11 +33,25 @@ fn has_classes(table: &Table, classes: &[(u64, &[u32])]) -> bool {
     as_told
 }
 
+/// Whether the table of a text has so many files and bytes, and these classes.
+fn merges_to(
+    alloc: Global,
+    text: &[u8],
+    files: u32,
+    total: u64,
+    classes: &[(u64, &[u32])],
+) -> bool {
+    match table_of(alloc, text) {
+        Some(table) => {
+            table.files() == files && table.total() == total && has_classes(&table, classes)
+        }
+        None => false,
+    }
+}
+
 #[test]
-fn keeps_chunks_with_users_of_their_own(rt: HostRuntime) -> Result<(), Fail> {
+fn keeps_chunks_with_users_of_their_own(rt: HostRuntime) {
     let text = b"a,01,10\na,02,20\nb,01,10\nb,03,30\nb,05,7\nc,04,5\nc,05,7\n";
-    let table = table_of(rt.alloc(), text)?;
-    assert!(rt; table.files() == 3 && table.total() == 72);
     let classes: [(u64, &[u32]); 5] = [
         (10, &[0, 1]),
         (20, &[0]),
@@ -36,15 +59,11 @@ fn keeps_chunks_with_users_of_their_own(rt: HostRuntime) -> Result<(), Fail> {
         (7, &[1, 2]),
         (5, &[2]),
     ];
-    assert!(rt; has_classes(&table, &classes));
-    Ok(())
+    assert!(rt; merges_to(rt.alloc(), text, 3, 72, &classes));
 }
 
 #[test]
-fn joins_chunks_with_the_same_users(rt: HostRuntime) -> Result<(), Fail> {
+fn joins_chunks_with_the_same_users(rt: HostRuntime) {
     let text = b"a,01,10\nb,01,10\na,02,20\nb,02,20\na,03,5\n";
-    let table = table_of(rt.alloc(), text)?;
-    assert!(rt; table.total() == 35);
-    assert!(rt; has_classes(&table, &[(30, &[0, 1]), (5, &[0])]));
-    Ok(())
+    assert!(rt; merges_to(rt.alloc(), text, 2, 35, &[(30, &[0, 1]), (5, &[0])]));
 }

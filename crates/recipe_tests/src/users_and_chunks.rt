@@ -2,11 +2,13 @@
 use incidence::Incidence;
 use recipe_reader::read_recipe;
 use std::alloc::Global;
-use std::test::Fail;
 
-fn incidence_of(alloc: Global, text: &[u8]) -> Result<Incidence, Fail> {
-    let recipe = read_recipe(alloc, text)?;
-    Ok(Incidence::of(alloc, &recipe)?)
+/// The lists of a text; none where it is refused.
+fn incidence_of(alloc: Global, text: &[u8]) -> Option<Incidence> {
+    match read_recipe(alloc, text) {
+        Ok(recipe) => Incidence::of(alloc, &recipe).ok(),
+        Err(_) => None,
+    }
 }
 
 /// Whether the chunks have these sizes and users, and there are no others.
@@ -32,10 +34,17 @@ fn has_chunks(incidence: &Incidence, chunks: &[&[u32]]) -> bool {
     as_told
 }
 
+/// Whether the chunks of a text have these sizes and users, and its files use these chunks.
+fn lists(alloc: Global, text: &[u8], users: &[(u64, &[u32])], chunks: &[&[u32]]) -> bool {
+    match incidence_of(alloc, text) {
+        Some(incidence) => has_users(&incidence, users) && has_chunks(&incidence, chunks),
+        None => false,
+    }
+}
+
 #[test]
-fn lists_users_and_chunks(rt: HostRuntime) -> Result<(), Fail> {
+fn lists_users_and_chunks(rt: HostRuntime) {
     let text = b"a,01,10\na,02,20\nb,01,10\nb,03,30\nb,05,7\nc,04,5\nc,05,7\n";
-    let incidence = incidence_of(rt.alloc(), text)?;
     let users: [(u64, &[u32]); 5] = [
         (10, &[0, 1]),
         (20, &[0]),
@@ -43,8 +52,5 @@ fn lists_users_and_chunks(rt: HostRuntime) -> Result<(), Fail> {
         (7, &[1, 2]),
         (5, &[2]),
     ];
-    assert!(rt; has_users(&incidence, &users));
-    let chunks: [&[u32]; 3] = [&[0, 1], &[0, 2, 3], &[3, 4]];
-    assert!(rt; has_chunks(&incidence, &chunks));
-    Ok(())
+    assert!(rt; lists(rt.alloc(), text, &users, &[&[0, 1], &[0, 2, 3], &[3, 4]]));
 }

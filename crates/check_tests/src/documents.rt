@@ -1,14 +1,8 @@
 // Worked documents and lines, with the values that stand in the format's description.
+use crate::worked::{PINNED, WORKED};
 use bound_cert::{DocError, read_document, read_line, write_document};
 use std::alloc::Global;
 use std::process::Abort;
-use std::test::Fail;
-
-const WORKED: &str =
-    "goseed 1\nrange 35 45\nanswer optimal\nplan 60 42 10\nbound 10\nbranch 0 00 e0 37 35\nbranch 1 00 60 7 35\nlow\nbound 1 1 6\ngive 0 0 0 10\ngive 0 1 10 0\ngive 1 0 0 20\ngive 2 1 30 30\ngive 3 2 7 7\ngive 4 2 5 5\nbranch 1 80 e0 27 25\nlow\nhigh\nend\n";
-
-const PINNED: &str =
-    "goseed 2\nrange 35 45\npins 80 00\nanswer infeasible\nplan none\nbound none\nbranch 1 80 e0 27 25\nlow\nhigh\nend\n";
 
 const EMPTY: &str = "goseed 1\nrange 0 0\nanswer optimal\nplan - 0 0\nbound 0\nbound 1 1 0\nend\n";
 
@@ -39,15 +33,16 @@ fn bad_line(alloc: Global, text: &str) -> Option<u64> {
     }
 }
 
-/// The worked document is bad from a line on where other text stands in place of some of it.
-fn is_bad_at(rt: &impl Abort, alloc: Global, old: &str, new: &str, line: u64) -> Result<(), Fail> {
-    let text = WORKED.replace(alloc, old, new)?;
-    assert_eq!(rt; bad_line(alloc, text.as_str()), Some(line), "{new}");
-    Ok(())
+/// The number of the first line that is bad where other text stands in the worked document in place of some of it.
+fn bad_line_with(alloc: Global, old: &str, new: &str) -> Option<u64> {
+    match WORKED.replace(alloc, old, new) {
+        Ok(text) => bad_line(alloc, text.as_str()),
+        Err(_) => None,
+    }
 }
 
 #[test]
-fn the_first_bad_line_of_a_heading_is_named(rt: HostRuntime) -> Result<(), Fail> {
+fn the_first_bad_line_of_a_heading_is_named(rt: HostRuntime) {
     for (old, new, line) in [
         ("goseed 1", "goseed 9", 1),
         ("range 35 45", "range 45 35", 2),
@@ -55,13 +50,12 @@ fn the_first_bad_line_of_a_heading_is_named(rt: HostRuntime) -> Result<(), Fail>
         ("42 10", "42  10", 4),
         ("bound 10", "low", 5),
     ] {
-        is_bad_at(&rt, rt.alloc(), old, new, line)?;
+        assert_eq!(rt; bad_line_with(rt.alloc(), old, new), Some(line), "{new}");
     }
-    Ok(())
 }
 
 #[test]
-fn the_first_bad_line_of_a_tree_is_named(rt: HostRuntime) -> Result<(), Fail> {
+fn the_first_bad_line_of_a_tree_is_named(rt: HostRuntime) {
     for (old, new, line) in [
         ("branch 0 00 e0 37 35", "high", 7),
         ("bound 1 1 6", "bound 1 1 5", 15),
@@ -71,9 +65,8 @@ fn the_first_bad_line_of_a_tree_is_named(rt: HostRuntime) -> Result<(), Fail> {
         ("high", "branch 1 80 e0 27 25", 19),
         ("end", "end\nend", 20),
     ] {
-        is_bad_at(&rt, rt.alloc(), old, new, line)?;
+        assert_eq!(rt; bad_line_with(rt.alloc(), old, new), Some(line), "{new}");
     }
-    Ok(())
 }
 
 #[test]

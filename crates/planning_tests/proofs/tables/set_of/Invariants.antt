@@ -1,5 +1,5 @@
 use Rattle.std.proofs.Common.{◌≡◌, length}
-use Rattle.search_tests.proofs.small_tables.set_of.Given as goal
+use Rattle.planning_tests.proofs.tables.set_of.Given as goal
 
 -- the set keeps its number of files
 abbrev pub invariant-loop-file : goal.invariant-loop-file

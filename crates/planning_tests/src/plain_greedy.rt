@@ -1,4 +1,5 @@
 // The greedy choice computed plainly. A set of few files is a mask: file f is bit f. Each set is summed anew.
+use crate::tables::bit;
 use seed_model::{Range, Table};
 
 /// The mask that a choice ended at, whether that is found, and how many turns and rounds it took.
@@ -8,11 +9,6 @@ pub(crate) struct Plain {
     pub mask: u32,
     pub turns: u32,
     pub rounds: u32,
-}
-
-/// The mask of one file.
-pub(crate) fn bit(file: u32) -> u32 {
-    1 << (file % 32)
 }
 
 /// The mask of the users of a class.

@@ -1,64 +1,21 @@
-// Tables from the rows of recipes, nodes from two sets, and the words of an answer.
-ghost use Rattle.std.specs.Prelude.{◌≡◌, length, IfOk, IfSome};
+// Answers at nodes in words, and what gives win and lose there.
+ghost use Rattle.std.specs.Prelude.{◌≡◌, length};
 ghost use Rattle.seed_model.specs.Nodes.{IsNode};
 ghost use Rattle.seed_model.specs.Ranges.{IsRange};
 
-use chunk_merge::merge;
 use hull_bound::{Give, Mix, Multipliers, NodeAnswer, solve_node, value_of};
-use incidence::Incidence;
-use recipe_reader::read_recipe;
-use seed_model::{NoMemory, Node, PlanSet, Range, Table, are_apart, write_number};
-use seed_text::{read_set, write_set};
+use seed_model::{NoMemory, Node, PlanSet, Range, Table, write_number};
+use seed_text::write_set;
 use std::alloc::Global;
-use std::test::Fail;
 
-/// The table of a recipe, with a class for each set of users.
-pub(crate) fn table_of(alloc: Global, rows: &[u8]) -> Result<Table, Fail> {
-    let recipe = read_recipe(alloc, rows)?;
-    let incidence = Incidence::of(alloc, &recipe)?;
-    Ok(merge(alloc, &incidence)?)
-}
-
-/// The node of two sets, where they have no file in common.
-pub(crate) fn node_of(table: &Table, inside: PlanSet, outside: PlanSet) -> Option<Node>
-    requires inside { length inside ≡ table.now.files }
-    requires outside { length outside ≡ table.now.files }
-    ensures { IfSome result (IsNode table.now.files) }
-{
-    if !are_apart(&inside, &outside) {
-        return None;
-    }
-    Some(Node { inside, outside })
-}
-
-/// The node of two texts of sets.
-pub(crate) fn node_named(
-    alloc: Global,
-    table: &Table,
-    inside: &[u8],
-    outside: &[u8],
-) -> Result<Option<Node>, NoMemory>
-    ensures { IfOk result (λ o. IfSome o (IsNode table.now.files)) }
-{
-    let Some(inside) = read_set(alloc, inside, table.files())? else {
-        return Ok(None);
-    };
-    let Some(outside) = read_set(alloc, outside, table.files())? else {
-        return Ok(None);
-    };
-    Ok(node_of(table, inside, outside))
-}
-
-// Adds a word and a space.
+/// Adds a word and a space.
 fn push_word(word: &[u8], text: &mut Vec<u8>) -> Result<(), NoMemory> {
-    for byte in word {
-        text.push(*byte)?;
-    }
+    text.extend_from_slice(word)?;
     text.push(b' ')?;
     Ok(())
 }
 
-// Adds a number and a space.
+/// Adds a number and a space.
 fn push_number(number: u128, text: &mut Vec<u8>) -> Result<(), NoMemory> {
     write_number(number, text)?;
     text.push(b' ')?;
@@ -76,7 +33,15 @@ pub(crate) fn value_in(table: &Table, mix: &Mix) -> Option<(u128, u128)>
     Some(value_of(table, mix))
 }
 
-// Adds a value, the slope of multipliers, and a mix.
+/// Adds the text of a set and a space.
+fn push_set(alloc: Global, set: &PlanSet, text: &mut Vec<u8>) -> Result<(), NoMemory> {
+    match write_set(alloc, set) {
+        Ok(word) => push_word(&word, text),
+        Err(_) => Err(NoMemory),
+    }
+}
+
+/// Adds a value, the slope of multipliers, and a mix.
 fn push_bound(
     alloc: Global,
     table: &Table,
@@ -96,38 +61,56 @@ fn push_bound(
     push_number(multipliers.p as u128, text)?;
     push_number(multipliers.q as u128, text)?;
     push_word(b"mix", text)?;
-    push_word(&write_set(alloc, &mix.first)?, text)?;
-    push_word(&write_set(alloc, &mix.second)?, text)?;
+    push_set(alloc, &mix.first, text)?;
+    push_set(alloc, &mix.second, text)?;
     push_number(mix.alpha as u128, text)?;
     push_number(mix.beta as u128, text)?;
     Ok(())
 }
 
-/// The words of the answer at a node, each with a space behind it; none where the texts name no node.
-pub(crate) fn words_of(
+/// Adds the words of an answer; a mix of other files has none.
+fn push_answer(
+    alloc: Global,
+    table: &Table,
+    answer: &NodeAnswer,
+    text: &mut Vec<u8>,
+) -> Result<(), NoMemory> {
+    match answer {
+        NodeAnswer::Low => push_word(b"low", text),
+        NodeAnswer::High => push_word(b"high", text),
+        NodeAnswer::Bound(multipliers, mix) => {
+            if mix.first.files() != table.files() || mix.second.files() != table.files() {
+                return Ok(());
+            }
+            push_bound(alloc, table, multipliers, mix, text)
+        }
+    }
+}
+
+/// Whether an answer has these words, each with a space behind it.
+fn has_words(alloc: Global, table: &Table, answer: &NodeAnswer, words: &[u8]) -> bool {
+    let mut text = Vec::new(alloc);
+    push_answer(alloc, table, answer, &mut text).is_ok() && text.as_slice() == words
+}
+
+/// Whether the answer at a node has these words, each with a space behind it.
+pub(crate) fn is_answered(
     alloc: Global,
     table: &Table,
     range: &Range,
-    inside: &[u8],
-    outside: &[u8],
-) -> Result<Vec<u8>, NoMemory>
-    requires { IsRange range.now }
+    node: &Node,
+    words: &[u8],
+) -> bool
+    requires range { IsRange range.now }
+    requires node { IsNode table.now.files node.now }
 {
-    let mut text = Vec::new(alloc);
-    let Some(node) = node_named(alloc, table, inside, outside)? else {
-        return Ok(text);
-    };
-    match solve_node(alloc, table, range, &node)? {
-        NodeAnswer::Low => push_word(b"low", &mut text)?,
-        NodeAnswer::High => push_word(b"high", &mut text)?,
-        NodeAnswer::Bound(multipliers, mix) => {
-            push_bound(alloc, table, &multipliers, &mix, &mut text)?
-        }
+    match solve_node(alloc, table, range, node) {
+        Ok(answer) => has_words(alloc, table, &answer, words),
+        Err(_) => false,
     }
-    Ok(text)
 }
 
-// What a file is charged and rewarded.
+/// What a file is charged and rewarded.
 fn shares_at(gives: &[Give], file: u32) -> (u128, u128) {
     let mut charges: u128 = 0;
     let mut rewards: u128 = 0;

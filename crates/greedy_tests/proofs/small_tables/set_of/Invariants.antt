@@ -1,6 +1,0 @@
-use Rattle.std.proofs.Common.{◌≡◌, length}
-use Rattle.greedy_tests.proofs.small_tables.set_of.Given as goal
-
--- the set keeps its number of files
-abbrev pub invariant-loop-file : goal.invariant-loop-file
-invariant-loop-file l = length l.set ≡ l.files
