@@ -1,7 +1,11 @@
 pub mod Alike
 pub mod Copying
+mod Examples
+pub mod Matched
+pub mod NameLists
 pub mod Names
 pub mod NamedSums
+pub mod OneOrder
 pub mod Ordering
 pub mod Sharing
 pub mod InOrder

@@ -9,6 +9,7 @@ use Rattle.recipe_reader.specs.Recipes.{RecipeValue, bytes_of, table_of}
 use Rattle.recipe_reader.specs.Same.{IsSameRecipe}
 use Rattle.recipe_order.specs.Orders.{IsOrder}
 use Rattle.recipe_order.specs.Reordered.{IsReordered, named_set, carried_set}
+use Rattle.recipe_order.specs.Sorted.{IsSorted}
 
 -- two lawful recipes that are one but for their order
 pub record AreAlike (a b : RecipeValue) : Type 0 where
@@ -68,3 +69,7 @@ HoldsOfSame = (a b : RecipeValue) → IsSameRecipe a b → IsReordered a b
 -- a recipe has one order
 abbrev pub HasOneOrder : Type 0
 HasOneOrder = (recipe : RecipeValue) (one other : List ℕ) → IsOrder recipe one → IsOrder recipe other → one ≡ other
+
+-- and is sorted in one way
+abbrev pub HasOneSorted : Type 0
+HasOneSorted = (recipe a b : RecipeValue) → IsSorted recipe a → IsSorted recipe b → a ≡ b

@@ -1,4 +1,5 @@
 pub mod Laws
+pub mod Matching
 pub mod Orders
 pub mod Parts
 pub mod Places

@@ -1,5 +1,5 @@
 // What recipes that are one but for the order of their files and chunks have in common.
-ghost use Rattle.recipe_order.specs.Laws.{CarriesBest, CarriesRange, CarriesSums, HoldsOfSame, IsReflexive, IsSymmetric, IsTransitive, KeepsBest, KeepsBytes, KeepsNone, KeepsRange, KeepsSums};
+ghost use Rattle.recipe_order.specs.Laws.{CarriesBest, CarriesRange, CarriesSums, HasOneOrder, HasOneSorted, HoldsOfSame, IsReflexive, IsSymmetric, IsTransitive, KeepsBest, KeepsBytes, KeepsNone, KeepsRange, KeepsSums};
 
 /// Of two lawful recipes that are one but for the order of their files and chunks: they have the same bytes, and every set
 /// of file names has the same three sums in both. So it is in range, or best, in the one exactly where it is in the other;
@@ -23,4 +23,10 @@ pub fn likeness_laws()
     ensures symmetric { IsSymmetric }
     ensures transitive { IsTransitive }
     ensures same { HoldsOfSame }
+{}
+
+/// A recipe has one order by falling shared bytes, and so is sorted in one way.
+pub fn one_order_laws()
+    ensures order { HasOneOrder }
+    ensures sorted { HasOneSorted }
 {}

@@ -2,9 +2,12 @@
 #![tactic(auto)]
 
 pub mod laws;
+pub mod matching;
+mod name_table;
 pub mod order;
 pub mod sorting;
 
-pub use laws::{likeness_laws, order_laws};
+pub use laws::{likeness_laws, one_order_laws, order_laws};
+pub use matching::{carried, matches};
 pub use order::order_of;
 pub use sorting::sorted;
