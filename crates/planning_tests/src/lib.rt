@@ -1,4 +1,4 @@
-//! Tests of planning: relaxations, searches and greedy sets, worked by hand and drawn, beside the same computed plainly.
+//! Tests of planning: relaxations, searches, greedy sets and the order of recipes, worked by hand and drawn, beside the same computed plainly.
 #![tactic(auto)]
 
 #[cfg(test)]
@@ -7,6 +7,10 @@ mod drawn_recipes;
 mod greedy_rows;
 #[cfg(test)]
 mod greedy_tables;
+#[cfg(test)]
+mod order_carried;
+#[cfg(test)]
+mod order_rows;
 #[cfg(test)]
 mod plain_greedy;
 #[cfg(test)]
