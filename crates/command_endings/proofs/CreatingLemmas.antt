@@ -15,10 +15,10 @@ pub all_of_them : (old new : Told) (name bytes : List ℕ) → new name ≡ Some
 all_of_them old new name bytes whole = inr (length bytes, whole ∙ ap Some (sym (take_all (length bytes) bytes (omega arith))))
 
 -- the byte strings, with these bytes behind a name
-with_name : Told → List ℕ → List ℕ → Told
+pub with_name : Told → List ℕ → List ℕ → Told
 with_name given name bytes other = if bytes_eq other name then Some bytes else given other
 
-with_here : (given : Told) (name bytes other : List ℕ) → other ≡ name → with_name given name bytes other ≡ Some bytes
+pub with_here : (given : Told) (name bytes other : List ℕ) → other ≡ name → with_name given name bytes other ≡ Some bytes
 unfolding with_name
 with_here given name bytes other same = by_test (bytes_eq other name) refl
   where
@@ -26,7 +26,7 @@ with_here given name bytes other same = by_test (bytes_eq other name) refl
     by_test true e = refl
     by_test false e = absurd (other_text other name e same)
 
-with_elsewhere : (given : Told) (name bytes other : List ℕ) → other ≢ name → with_name given name bytes other ≡ given other
+pub with_elsewhere : (given : Told) (name bytes other : List ℕ) → other ≢ name → with_name given name bytes other ≡ given other
 unfolding with_name
 with_elsewhere given name bytes other apart = by_test (bytes_eq other name) refl
   where

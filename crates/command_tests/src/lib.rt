@@ -6,6 +6,8 @@ mod checks;
 #[cfg(test)]
 mod creating;
 #[cfg(test)]
+mod other_shelf;
+#[cfg(test)]
 mod planned;
 #[cfg(test)]
 mod relaxed;
@@ -13,5 +15,7 @@ mod relaxed;
 mod run;
 #[cfg(test)]
 mod short_shelf;
+#[cfg(test)]
+mod trials;
 #[cfg(test)]
 mod words;

@@ -6,7 +6,7 @@ use Rattle.goseed_words.specs.declared.order.Order.{Order}
 use Rattle.goseed_words.specs.declared.order.WordError.{WordError}
 use Rattle.goseed_words.specs.declared.order.WordError.TheVariants as word
 use Rattle.goseed_words.specs.Asked.{Asked}
-use Rattle.goseed_words.specs.Commands.{Command, Best, Weigh, Check, Relax, Plan, Pinned}
+use Rattle.goseed_words.specs.Commands.{Command, Best, Weigh, Check, Relax, Plan, Pinned, Gen, Greedy, Gap}
 use Rattle.goseed_words.specs.Orders.{Means, asked_of, IsSameMeaning, OneMeaning}
 use Rattle.command_texts.specs.declared.status.Status.{Status}
 use Rattle.command_texts.specs.declared.status.Status.TheVariants.{Done, No, Refused, Outside, Memory}
@@ -18,15 +18,26 @@ use Rattle.command_endings.proofs.WorldLemmas.{over_weaker}
 use Rattle.planning_commands.specs.Causes.{PlanningCause}
 use Rattle.planning_commands.specs.Check.{HearsCheck}
 use Rattle.planning_commands.specs.Endings.{best_common, best_ends, weigh_common, weigh_ends, check_common, check_ends, relax_common, relax_ends, plan_common, plan_ends, pinned_common, pinned_ends}
-use Rattle.goseed_top.specs.Causes.{Cause, CauseOver, Words, Planning, WordCause, Usage, BadWord}
+use Rattle.trial_commands.specs.Causes.{TrialCause}
+use Rattle.trial_commands.specs.Endings.{gen_common, gen_ends, greedy_common, greedy_ends, gap_common, gap_ends}
+use Rattle.trial_commands.specs.Gap.{HearsGap}
+use Rattle.trial_commands.specs.Gen.{HearsDrawn}
+use Rattle.goseed_top.specs.Causes.{Cause, CauseOver, Words, Planning, Trying, WordCause, Usage, BadWord}
 use Rattle.goseed_top.specs.Determined.{OneEnding, MeaningCommon, command_common}
-use Rattle.goseed_top.specs.Endings.{Answers, AskedEnds, Ends, MeaningEnds, command_ends, no_order}
+use Rattle.goseed_top.specs.Endings.{Answers, AskedEnds, Ends, Hears, Checking, Gapping, Drawing, MeaningEnds, command_ends, no_order}
 
 -- a command of the crate of plans
 planning : (command : Command) → IsLawfulCommand PlanningCause command (command_ends command) (command_common command) → IsLawfulCommand Cause command (command_ends command) (command_common command)
 planning command law = record {
   determined = law.determined;
   caused = λ words values asks found left status text ends. Planning (law.caused words values asks found left status text ends);
+}
+
+-- and one of the crate of trials
+trying : (command : Command) → IsLawfulCommand TrialCause command (command_ends command) (command_common command) → IsLawfulCommand Cause command (command_ends command) (command_common command)
+trying command law = record {
+  determined = law.determined;
+  caused = λ words values asks found left status text ends. Trying (law.caused words values asks found left status text ends);
 }
 
 -- words that mean no order are refused
@@ -40,6 +51,8 @@ no_stop found words status (Words cause) (inl is) = let refused = was_refused wo
 no_stop found words status (Words cause) (inr is) = let refused = was_refused words status cause in cc (refused.1, is)
 no_stop found words status (Planning cause) (inl is) = subst (PlanningCause found words) is cause
 no_stop found words status (Planning cause) (inr is) = subst (PlanningCause found words) is cause
+no_stop found words status (Trying cause) (inl is) = subst (TrialCause found words) is cause
+no_stop found words status (Trying cause) (inr is) = subst (TrialCause found words) is cause
 
 -- nor was one that heard a certificate
 ended_goes : (one : Status) → (one ≡ Done) ⊎ ((one ≡ No) ⊎ ((number : ℕ) × (one ≡ Refused number))) → (one ≡ Outside) ⊎ (one ≡ Memory) → ⊥
@@ -60,9 +73,33 @@ heard_ends tells map recipe name status text heard = elim heard.rest [
   ]
 ]
 
+gap_ends_so : (tells : Bool) (map : Told) (recipe name : List ℕ) (status : Status) (text : List ℕ) → HearsGap tells map recipe name status text
+    → (status ≡ Done) ⊎ ((status ≡ No) ⊎ ((number : ℕ) × (status ≡ Refused number)))
+gap_ends_so tells map recipe name status text heard = elim heard.rest [
+  | inl lacks ↦ inr (inr (2, lacks.answers))
+  | inr more ↦ elim more [
+    | inl long ↦ inr (inr (3, long.answers))
+    | inr shown ↦ elim shown [ inl fails ↦ inr (inl fails.answers) | inr bound ↦ elim bound.beside [ inl between ↦ inl between.answers | inr none ↦ inr (inl none.answers) ] ]
+  ]
+]
+
+drawn_ends_so : (tells : Bool) (number files : ℕ) (status : Status) (text : List ℕ) → HearsDrawn tells number files status text
+    → (status ≡ Done) ⊎ ((status ≡ No) ⊎ ((number : ℕ) × (status ≡ Refused number)))
+drawn_ends_so tells number files status text heard = elim heard.hears.rest [
+  | inl failed ↦ inr (inl failed.answers)
+  | inr refused ↦ elim refused [ inl lacks ↦ inr (inr (2, lacks.answers)) | inr long ↦ inr (inr (3, long.answers)) ]
+]
+
+hears_ends : (old : Seen) (words : List (List ℕ)) (status : Status) (text : List ℕ) → Hears old words status text → (status ≡ Done) ⊎ ((status ≡ No) ⊎ ((number : ℕ) × (status ≡ Refused number)))
+hears_ends old words status text (Checking recipe certificate asks heard) = heard_ends old.tells old.map recipe certificate status text heard
+hears_ends old words status text (Gapping recipe certificate asks heard) = gap_ends_so old.tells old.map recipe certificate status text heard
+hears_ends old words status text (Drawing number files asks heard) = drawn_ends_so old.tells number files status text heard
+
 module _ (best : IsLawfulCommand PlanningCause Best best_ends best_common) (weigh : IsLawfulCommand PlanningCause Weigh weigh_ends weigh_common)
     (check : IsLawfulCommand PlanningCause Check check_ends check_common) (relax : IsLawfulCommand PlanningCause Relax relax_ends relax_common)
-    (plan : IsLawfulCommand PlanningCause Plan plan_ends plan_common) (pinned : IsLawfulCommand PlanningCause Pinned pinned_ends pinned_common) where
+    (plan : IsLawfulCommand PlanningCause Plan plan_ends plan_common) (pinned : IsLawfulCommand PlanningCause Pinned pinned_ends pinned_common)
+    (gen : IsLawfulCommand TrialCause Gen gen_ends gen_common) (greedy : IsLawfulCommand TrialCause Greedy greedy_ends greedy_common)
+    (gap : IsLawfulCommand TrialCause Gap gap_ends gap_common) where
   -- each command
   command_lawful : (command : Command) → IsLawfulCommand Cause command (command_ends command) (command_common command)
   command_lawful Best = planning Best best
@@ -71,6 +108,9 @@ module _ (best : IsLawfulCommand PlanningCause Best best_ends best_common) (weig
   command_lawful Relax = planning Relax relax
   command_lawful Plan = planning Plan plan
   command_lawful Pinned = planning Pinned pinned
+  command_lawful Gen = trying Gen gen
+  command_lawful Greedy = trying Greedy greedy
+  command_lawful Gap = trying Gap gap
 
   -- how words end by one meaning, they end by each
   same_ends : (a b : Result Order WordError) → IsSameMeaning a b → (found : World) (status : Status) (text : List ℕ) (left : World) → MeaningEnds a found status text left → MeaningEnds b found status text left
@@ -112,4 +152,4 @@ module _ (best : IsLawfulCommand PlanningCause Best best_ends best_common) (weig
   not_stopped old new words status text (inl over) stopped =
       let cause = over_cause old new words status text over in
       no_stop (record { files = cause.given; devices = cause.holds.given }) words status cause.holds.holds stopped
-  not_stopped old new words status text (inr hears) stopped = ended_goes status (heard_ends old.tells old.map hears.recipe hears.certificate status text hears.heard) stopped
+  not_stopped old new words status text (inr hears) stopped = ended_goes status (hears_ends old words status text hears) stopped

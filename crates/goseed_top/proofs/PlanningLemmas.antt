@@ -10,7 +10,7 @@ use Rattle.goseed_words.specs.declared.amount.Amount.{Amount}
 use Rattle.goseed_words.specs.declared.order.Order.{Order}
 use Rattle.goseed_words.specs.declared.order.WordError.{WordError}
 use Rattle.goseed_words.specs.Asked.{Asked, Asks, asking}
-use Rattle.goseed_words.specs.Commands.{Plan, Pinned}
+use Rattle.goseed_words.specs.Commands.{Plan, Pinned, Gen}
 use Rattle.goseed_words.specs.Orders.{Means, asked_of}
 use Rattle.goseed_words.proofs.MeaningLemmas.{one_asked, asked_no_fault}
 use Rattle.command_texts.specs.declared.status.Status.{Status}
@@ -20,8 +20,9 @@ use Rattle.planning_commands.specs.Plan.{AsksSearch, PinnedOf, PlanOf, PrintsSea
 use Rattle.planning_commands.specs.Nodes.{SpellsNode}
 use Rattle.planning_commands.specs.Reading.{HoldsRecipe, RecipeEnds}
 use Rattle.planning_commands.specs.Laws.{GiveOne}
-use Rattle.goseed_top.specs.Endings.{Answers, AskedEnds, Ends, MeaningEnds, Prints}
-use Rattle.goseed_top.specs.Planning.{HasPlanned, Plans}
+use Rattle.goseed_top.specs.Endings.{Answers, AskedEnds, Checking, Drawing, Ends, Gapping, Hears, MeaningEnds, Prints}
+use Rattle.trial_commands.specs.Gen.{GenEnds, PrintsDrawn, document_name, recipe_name}
+use Rattle.goseed_top.specs.Planning.{Draws, HasDrawn, HasPlanned, Plans}
 
 -- where the words ask for this, they end as this does
 asked_ends : (words : List (List ℕ)) (asked : Asked) (meaning : Result Order WordError) (found : World) (status : Status) (text : List ℕ) (left : World) → Asks words asked → Means words meaning
@@ -29,6 +30,53 @@ asked_ends : (words : List (List ℕ)) (asked : Asked) (meaning : Result Order W
 asked_ends words asked (Ok order) found status text left asks means ends =
     subst (λ (a : Asked). AskedEnds a found status text left) (one_asked words (asked_of order) asked means asks) ends
 asked_ends words asked (Err error) found status text left asks means ends = absurd (asked_no_fault words asked error asks means)
+
+-- over a shelf that tells its bytes nothing else is given back
+none_heard : (old : Seen) (words : List (List ℕ)) (status : Status) (text : List ℕ) → old.tells ≡ true → Hears old words status text → ⊥
+none_heard old words status text told (Checking recipe certificate asks heard) = cc (told, heard.silent)
+none_heard old words status text told (Gapping recipe certificate asks heard) = cc (told, heard.silent)
+none_heard old words status text told (Drawing number files asks heard) = cc (told, heard.hears.silent)
+
+-- `gen`
+drawn_left : (number files : ℕ) (old new found left : Told) (status : Status) (text : List ℕ) (sink_tells : Bool) (before after : List ℕ) → ((name : List ℕ) → found name ≡ old name)
+    → ((name : List ℕ) → left name ≡ new name) → (sink_tells ≡ true → after ≡ before ++ text) → GenEnds number files found status text left → HasDrawn number files old new status sink_tells before after
+drawn_left number files old new found left status text sink_tells before after was is printed e =
+    let ends = subst (PrintsDrawn number files status text) (is document_name) e.ends in
+    let outcome = ends.printed.searched in
+    record {
+      text = text;
+      ended = record { written = sym (is recipe_name) ∙ e.written; ends = ends; others = λ name apart from. sym (is name) ∙ (e.others name apart from ∙ was name) };
+      printed = printed;
+      heading = outcome.heading;
+      nodes = outcome.nodes;
+      checked = record {
+        heading = outcome.heading;
+        nodes = outcome.nodes;
+        held = record {
+          bytes = document_text outcome.heading outcome.nodes;
+          reads = record { held = outcome.held; short = outcome.short };
+          document = outcome.document;
+          text_is = refl;
+          valid = outcome.searched.valid;
+        };
+        answers = refl;
+        prints = refl;
+      };
+    }
+
+pub draws : (old new : Seen) (words : List (List ℕ)) (status : Status) (sink_tells : Bool) (before after : List ℕ) → old.tells ≡ true → new.tells ≡ true
+    → Prints old new words status sink_tells before after → Draws old.map new.map words status sink_tells before after
+draws old new words status sink_tells before after told kept p number files asks = by_answer p.ends
+  where
+    by_answer : Answers old new words status p.text → HasDrawn number files old.map new.map status sink_tells before after
+    by_answer (inl over) =
+        let rest = over.holds.holds in
+        let ends = rest.holds.holds in
+        let found : World = record { files = over.given; devices = over.holds.given } in
+        let left : World = record { files = rest.given; devices = rest.holds.given } in
+        let ended = asked_ends words (asking Gen number files) ends.meaning found status p.text left asks ends.means ends.ends in
+        drawn_left number files old.map new.map over.given rest.given status p.text sink_tells before after (over.told told) (rest.told kept) p.taken ended.ends
+    by_answer (inr hears) = absurd (none_heard old words status p.text told hears)
 
 module _ (one : GiveOne) where
   -- a command that reads a recipe ends as its rest does over the recipe that the name gives
@@ -96,12 +144,9 @@ module _ (one : GiveOne) where
       → Prints old new words status sink_tells before after → Plans old.map new.map words status sink_tells before after
   plans old new words status sink_tells before after told kept p recipe range pins budget document asks = by_answer p.ends
     where
-      silent : old.tells ≡ false → ⊥
-      silent none = cc (told, none)
-
       by_answer : Answers old new words status p.text → HasPlanned recipe range pins budget document old.map new.map status sink_tells before after
       by_answer (inl over) =
           let rest = over.holds.holds in
           search_planned old.map new.map words status p.text sink_tells before after (record { files = over.given; devices = over.holds.given }) (record { files = rest.given; devices = rest.holds.given })
           (over.told told) (rest.told kept) p.taken rest.holds.holds recipe range pins budget document asks
-      by_answer (inr hears) = absurd (silent hears.heard.silent)
+      by_answer (inr hears) = absurd (none_heard old words status p.text told hears)

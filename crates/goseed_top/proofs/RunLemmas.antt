@@ -1,19 +1,21 @@
 -- How commands end and what they leave, from what their words mean.
-use Rattle.std.proofs.Common.{◌≡◌, ℕ, List, ◌++◌, Bool, true, false, refl, ap, inl, inr, take}
-use Rattle.std.specs.Prelude.{◌⊎◌, Result, Ok, Err}
+use Rattle.std.proofs.Common.{◌≡◌, ℕ, List, ◌++◌, Bool, true, false, refl, sym, ap, inl, inr, take, arith}
+use Rattle.std.specs.Prelude.{◌⊎◌, Result, Ok, Err, option_map}
 use Rattle.seed_io.specs.Shelf.{Told}
 use Rattle.volume_disk.specs.Disk.{Disk}
 use Rattle.goseed_words.specs.declared.order.Order.{Order}
 use Rattle.goseed_words.specs.declared.order.WordError.{WordError}
-use Rattle.goseed_words.specs.Asked.{Asks, IsCreated, UsesSite}
-use Rattle.goseed_words.specs.Commands.{row}
+use Rattle.goseed_words.specs.Asked.{Asks, IsCreated, UsesSite, asking}
+use Rattle.goseed_words.specs.Commands.{Gen, row}
 use Rattle.goseed_words.specs.Orders.{Means, MeansNoOrder, OneMeaning, asked_of}
 use Rattle.command_texts.specs.declared.status.Status.{Status}
 use Rattle.command_texts.specs.Refusals.{Refuses}
 use Rattle.command_endings.specs.Creating.{LeavesOthers}
 use Rattle.command_endings.specs.Worlds.{World, ShelfEnding, Reading, OnShelf, Seen, seen, OverWorld, EndsOver}
 use Rattle.command_endings.proofs.WorldLemmas.{images, over_devices, over_weaker, on_shelf, reads, same_name}
-use Rattle.goseed_top.specs.Endings.{Answers, AskedEnds, Ends, Hears, MayEnd, MeaningEnds, CreatesFront, LeavesPart, PrintsPart, no_order}
+use Rattle.goseed_top.specs.Endings.{Answers, AskedEnds, Ends, Hears, MayEnd, MeaningEnds, CreatesDrawn, CreatesFront, LeavesPart, PrintsPart, no_order}
+use Rattle.trial_commands.specs.Gen.{GenEnds, HoldsDrawnFront, LeavesDrawn, document_name, recipe_name}
+use Rattle.trial_commands.proofs.GenLemmas.{both_here, ends_with_both, with_both}
 
 -- how words end, from how their meaning ends
 pub means : (old new : Seen) (words : List (List ℕ)) (meaning : Result Order WordError) (status : Status) (text : List ℕ) → Means words meaning
@@ -61,9 +63,9 @@ pub leaves_created : (old : Seen) (new : Told) (words : List (List ℕ)) (name :
     → LeavesOthers old.tells old.map new name E → LeavesPart old new words
 leaves_created old new words name order E asks created is leaves other = elim (same_name other name) [
   | inl same ↦ rw same
-      (elim leaves.part as (λ _. (new name ≡ old.map name) ⊎ CreatesFront old words name (new name)) [
+      (elim leaves.part as (λ _. (new name ≡ old.map name) ⊎ (CreatesFront old words name (new name) ⊎ CreatesDrawn words name (new name))) [
         | inl before ↦ inl before
-        | inr front ↦ inr
+        | inr front ↦ inr (inl
             (record {
               created = created;
               status = front.status;
@@ -78,14 +80,67 @@ leaves_created old new words name order E asks created is leaves other = elim (s
                   }) front.ends;
               count = front.count;
               front = front.front;
-            })
+            }))
       ])
   | inr apart ↦ inl (leaves.others other apart)
 ]
 
+-- the names that `gen` creates
+pub created_drawn : (words : List (List ℕ)) (name : List ℕ) (number files : ℕ) → Asks words (asking Gen number files) → (name ≡ recipe_name) ⊎ (name ≡ document_name) → IsCreated words name
+created_drawn words name number files asks (inl is) = record { command = Gen; fits = asks.fits; created = inr (0, omega arith, sym is) }
+created_drawn words name number files asks (inr is) = record { command = Gen; fits = asks.fits; created = inr (1, omega arith, sym is) }
+
+-- what `gen` leaves
+pub leaves_names : (old : Seen) (new : Told) (words : List (List ℕ)) (number files : ℕ) (order : Order) → Asks words (asked_of order) → Asks words (asking Gen number files)
+    → ((found left : World) (status : Status) (text : List ℕ) → OnShelf (GenEnds number files) found status text left → AskedEnds (asked_of order) found status text left)
+    → LeavesDrawn number files old.map new → LeavesPart old new words
+leaves_names old new words number files order asked asks is leaves name = elim (same_name name recipe_name) [
+  | inl at ↦ rw at
+      (elim leaves.recipe as (λ _. (new recipe_name ≡ old.map recipe_name) ⊎ (CreatesFront old words recipe_name (new recipe_name) ⊎ CreatesDrawn words recipe_name (new recipe_name))) [
+        | inl before ↦ inl before
+        | inr some ↦ inr (inr (record { number = number; files = files; asks = asks; is = refl; count = some.0; front = some.1 }))
+      ])
+  | inr apart ↦ elim (same_name name document_name) [
+    | inl at ↦ rw at
+        (elim leaves.document as (λ _. (new document_name ≡ old.map document_name) ⊎ (CreatesFront old words document_name (new document_name) ⊎ CreatesDrawn words document_name (new document_name))) [
+          | inl before ↦ inl before
+          | inr front ↦ inr (inl (front_left front))
+        ])
+    | inr from ↦ inl (leaves.others name apart from)
+  ]
+]
+  where
+    front_left : HoldsDrawnFront number files (new document_name) → CreatesFront old words document_name (new document_name)
+    front_left front =
+        let holds = front.holds in
+        let left : Told = with_both number files old.map holds.whole in
+        record {
+          created = created_drawn words document_name number files asks (inr refl);
+          status = holds.status;
+          text = holds.text;
+          left = record { files = left; devices = images old.disk };
+          ends = over_devices old (λ found. GenEnds number files found holds.status holds.text left)
+              (λ found. Ends words found holds.status holds.text (record { files = left; devices = images old.disk })) (λ found ends. record {
+                meaning = Ok order;
+                means = asked;
+                ends = is (record { files = found; devices = images old.disk }) (record { files = left; devices = images old.disk }) holds.status holds.text
+                    (record { ends = ends; same = λ dev in_range. refl });
+              })
+              (record {
+                given = old.map;
+                told = λ told other. refl;
+                holds = ends_with_both number files old.map holds.status holds.text holds.whole (record { recipe = front.recipe; drawn = front.drawn; printed = holds.printed });
+              });
+          count = holds.count;
+          front = holds.front ∙ ap (option_map (take holds.count)) (sym (both_here number files old.map holds.whole));
+        }
+
 -- a name that is not created stays
 pub leaves_others : (old : Seen) (new : Told) (words : List (List ℕ)) → LeavesPart old new words → (name : List ℕ) → ¬ IsCreated words name → new name ≡ old.map name
-leaves_others old new words leaves name none = elim (leaves name) [ inl same ↦ same | inr front ↦ absurd (none front.created) ]
+leaves_others old new words leaves name none = elim (leaves name) [
+  | inl same ↦ same
+  | inr part ↦ elim part [ inl front ↦ absurd (none front.created) | inr drawn ↦ absurd (none (created_drawn words name drawn.number drawn.files drawn.asks (inl drawn.is))) ]
+]
 
 -- words mean no order, or ask for one
 pub asked_or_none : OneMeaning → (words : List (List ℕ)) (order : Order) → Means words (Ok order) → MeansNoOrder words → ⊥

@@ -6,6 +6,7 @@ use Rattle.command_texts.specs.declared.status.Status.{Status}
 use Rattle.command_texts.specs.declared.status.Status.TheVariants.{Refused}
 use Rattle.command_endings.specs.Worlds.{World, Seen, OverWorld}
 use Rattle.planning_commands.specs.Causes.{PlanningCause}
+use Rattle.trial_commands.specs.Causes.{TrialCause}
 use Rattle.goseed_top.specs.Endings.{Hears}
 
 -- why words are refused that mean no order
@@ -17,6 +18,7 @@ pub data WordCause (words : List (List ℕ)) : Status → Type 0 where
 pub data Cause (found : World) (words : List (List ℕ)) (status : Status) : Type 0 where
   Words : WordCause words status → Cause found words status
   Planning : PlanningCause found words status → Cause found words status
+  Trying : TrialCause found words status → Cause found words status
 
 -- why it answered so over a shelf and a rack: by what they hold, or by what a shelf gave that does not tell its bytes
 abbrev pub CauseOver : Seen → List (List ℕ) → Status → Type 0

@@ -1,10 +1,10 @@
 -- How a command ends: its status, what it prints and what it leaves, as the words and what it finds determine them.
-use Rattle.std.specs.Prelude.{◌≡◌, ◌⊎◌, ℕ, List, ◌++◌, take, Bool, true, Option, option_map, Result, Ok, Err}
+use Rattle.std.specs.Prelude.{◌≡◌, ◌⊎◌, ℕ, List, ◌++◌, take, Bool, true, Option, Some, option_map, Result, Ok, Err}
 use Rattle.seed_io.specs.Shelf.{Told}
 use Rattle.goseed_words.specs.declared.order.Order.{Order}
 use Rattle.goseed_words.specs.declared.order.WordError.{WordError}
 use Rattle.goseed_words.specs.declared.order.WordError.TheVariants.{Usage, BadWord}
-use Rattle.goseed_words.specs.Commands.{Command, Best, Weigh, Check, Relax, Plan, Pinned, row}
+use Rattle.goseed_words.specs.Commands.{Command, Best, Weigh, Check, Relax, Plan, Pinned, Gen, Greedy, Gap, row}
 use Rattle.goseed_words.specs.Asked.{Asked, Asks, Takes, IsCreated, asking}
 use Rattle.goseed_words.specs.Orders.{Means, asked_of}
 use Rattle.command_texts.specs.declared.status.Status.{Status}
@@ -13,6 +13,9 @@ use Rattle.command_endings.specs.Worlds.{World, Ending, Reading, OnShelf, Seen, 
 use Rattle.command_texts.specs.Refusals.{Refusal, Refuses, usage, bad_word}
 use Rattle.planning_commands.specs.Check.{HearsCheck}
 use Rattle.planning_commands.specs.Endings.{best_ends, weigh_ends, check_ends, relax_ends, plan_ends, pinned_ends}
+use Rattle.trial_commands.specs.Endings.{gen_ends, greedy_ends, gap_ends}
+use Rattle.trial_commands.specs.Gap.{HearsGap}
+use Rattle.trial_commands.specs.Gen.{HearsDrawn, drawn_text, recipe_name}
 
 -- how each command ends
 abbrev pub command_ends : (command : Command) → Takes (row command).operands Ending
@@ -22,6 +25,9 @@ command_ends Check = check_ends
 command_ends Relax = relax_ends
 command_ends Plan = plan_ends
 command_ends Pinned = pinned_ends
+command_ends Gen = gen_ends
+command_ends Greedy = greedy_ends
+command_ends Gap = gap_ends
 
 -- how a command with its values ends
 abbrev pub AskedEnds : Asked → Ending
@@ -43,12 +49,12 @@ pub record Ends (words : List (List ℕ)) (found : World) (status : Status) (tex
   pub means : Means words meaning
   pub ends : MeaningEnds meaning found status text left
 
--- the words ask to judge a certificate, and the shelf does not tell its bytes: so it ends, whatever the shelf gave of it
-pub record Hears (old : Seen) (words : List (List ℕ)) (status : Status) (text : List ℕ) : Type 0 where
-  pub recipe : List ℕ
-  pub certificate : List ℕ
-  pub asks : Asks words (asking Check recipe certificate)
-  pub heard : HearsCheck old.tells old.map recipe certificate status text
+-- the words ask to judge a certificate, of a search of the command's own or not, and the shelf does not tell its bytes: so it ends,
+-- whatever the shelf gave of it
+pub data Hears (old : Seen) (words : List (List ℕ)) (status : Status) (text : List ℕ) : Type 0 where
+  Checking : (recipe certificate : List ℕ) → Asks words (asking Check recipe certificate) → HearsCheck old.tells old.map recipe certificate status text → Hears old words status text
+  Gapping : (recipe certificate : List ℕ) → Asks words (asking Gap recipe certificate) → HearsGap old.tells old.map recipe certificate status text → Hears old words status text
+  Drawing : (number files : ℕ) → Asks words (asking Gen number files) → HearsDrawn old.tells number files status text → Hears old words status text
 
 -- how a command with these words ends over a shelf and a rack: as what they hold determines it, where the shelf tells its bytes
 abbrev pub Answers : Seen → Seen → List (List ℕ) → Status → List ℕ → Type 0
@@ -87,7 +93,16 @@ pub record CreatesFront (old : Seen) (words : List (List ℕ)) (name : List ℕ)
   pub count : ℕ
   pub front : now ≡ option_map (take count) (left.files name)
 
+-- behind the name of a recipe that is drawn stands a front of its text
+pub record CreatesDrawn (words : List (List ℕ)) (name : List ℕ) (now : Option (List ℕ)) : Type 0 where
+  pub number : ℕ
+  pub files : ℕ
+  pub asks : Asks words (asking Gen number files)
+  pub is : name ≡ recipe_name
+  pub count : ℕ
+  pub front : now ≡ Some (take count (drawn_text number files))
+
 -- what a command left, stopped or not: behind each name what was there, or where it creates the name, a front of what it
 -- leaves there
 abbrev pub LeavesPart : Seen → Told → List (List ℕ) → Type 0
-LeavesPart old new words = (name : List ℕ) → (new name ≡ old.map name) ⊎ CreatesFront old words name (new name)
+LeavesPart old new words = (name : List ℕ) → (new name ≡ old.map name) ⊎ (CreatesFront old words name (new name) ⊎ CreatesDrawn words name (new name))

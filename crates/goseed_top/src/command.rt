@@ -8,7 +8,7 @@ ghost use Rattle.command_endings.specs.Worlds.{EndsOver, seen};
 ghost use Rattle.goseed_top.specs.Causes.{CauseOver};
 ghost use Rattle.goseed_top.specs.Endings.{Answers, AskedEnds, Hears, LeavesPart, Prints, PrintsPart};
 ghost use Rattle.goseed_top.specs.Faults.{HandsOnBoth, faults};
-ghost use Rattle.goseed_top.specs.Planning.{Plans};
+ghost use Rattle.goseed_top.specs.Planning.{Draws, Plans};
 
 use command_texts::{Halt, Refusal, Report, Status, or_halt, refused};
 use goseed_words::{Order, WordError, order_of, word_laws};
@@ -20,6 +20,10 @@ use planning_commands::relax::relax;
 use planning_commands::weigh::weigh;
 use seed_io::{Shelf, Sink, SinkError};
 use std::alloc::Global;
+use trial_commands::gap::gap;
+use trial_commands::drawing::draw;
+use trial_commands::greedy::greedy;
+use trial_commands::trial_laws;
 use volume_disk::Rack;
 
 /// Carries out the command of these words: reads what it needs from the shelf and the rack, leaves there what it creates,
@@ -44,6 +48,10 @@ pub fn run<F: Shelf, K: Sink, R: Rack>(
     // are one outcome of the search that the words ask for.
     ensures planned { F.tells shelf.old ≡ true → result ≢ Status.Outside → result ≢ Status.Memory
         → Plans (F.map shelf.old) (F.map shelf.new) (texts words.now) result (K.tells out.old) (K.taken out.old) (K.taken out.new) }
+
+    // The same of a recipe that is drawn: its text and the certificate stand behind their names, and `check` says yes to it.
+    ensures drawn { F.tells shelf.old ≡ true → result ≢ Status.Outside → result ≢ Status.Memory
+        → Draws (F.map shelf.old) (F.map shelf.new) (texts words.now) result (K.tells out.old) (K.taken out.old) (K.taken out.new) }
 
     // Why it was stopped: a call of the shelf, of the sink, or of the rack failed, or memory ran out.
     ensures outside { result ≡ Status.Outside → Rose (F.faults shelf.old) (F.faults shelf.new) ⊎ (Rose (K.faults out.old) (K.faults out.new) ⊎ (UsesSite (texts words.now) × Rose (R.faults rack.old) (R.faults rack.new))) }
@@ -72,6 +80,7 @@ pub fn run<F: Shelf, K: Sink, R: Rack>(
     ensures rack_later { R.faults rack.old ≤ R.faults rack.new }
 {
     planning_laws();
+    trial_laws();
     let report = match report_of(alloc, words, shelf, rack) {
         Ok(report) => report,
         Err(Halt::Outside) => return Status::Outside,
@@ -176,5 +185,15 @@ fn report_of_order<F: Shelf, R: Rack>(
             };
             pinned(alloc, shelf, recipe, document, aim, go, stay)
         }
+        Order::Gen { number, files } => draw(alloc, shelf, number, files),
+        Order::Greedy {
+            recipe,
+            target,
+            slack,
+        } => greedy(alloc, shelf, recipe, target, slack),
+        Order::Gap {
+            recipe,
+            certificate,
+        } => gap(alloc, shelf, recipe, certificate),
     }
 }

@@ -9,7 +9,7 @@ use Rattle.goseed_words.specs.declared.amount.Amount.TheVariants.{Bytes, Percent
 use Rattle.goseed_words.specs.declared.order.WordError.{WordError}
 use Rattle.goseed_words.specs.declared.order.WordError.TheVariants.{Usage, BadWord}
 use Rattle.goseed_words.specs.Amounts.{SpellsAmount}
-use Rattle.goseed_words.specs.Commands.{Form, Kind, Reads, Creates, ASet, AnAmount, ANumber, Value, Says, Command, Best, Weigh, Check, Relax, Plan, Pinned, row}
+use Rattle.goseed_words.specs.Commands.{Form, Kind, Reads, Creates, ASet, AnAmount, ANumber, ACount, Value, Says, Command, Best, Weigh, Check, Relax, Plan, Pinned, Gen, Greedy, Gap, row}
 use Rattle.goseed_words.specs.Asked.{Values, Asked, SayAll, Asks, HasOperand, Fits, IsFirstBad}
 use Rattle.goseed_words.specs.Orders.{asked_of, IsWordFault, OneMeaning}
 use Rattle.goseed_words.proofs.AmountLemmas.{no_percent}
@@ -23,6 +23,9 @@ named name =
     else if bytes_eq name (row Relax).name then Some Relax
     else if bytes_eq name (row Plan).name then Some Plan
     else if bytes_eq name (row Pinned).name then Some Pinned
+    else if bytes_eq name (row Gen).name then Some Gen
+    else if bytes_eq name (row Greedy).name then Some Greedy
+    else if bytes_eq name (row Gap).name then Some Gap
     else None
 
 -- it is the command: names are apart
@@ -34,6 +37,9 @@ found Check = refl
 found Relax = refl
 found Plan = refl
 found Pinned = refl
+found Gen = refl
+found Greedy = refl
+found Gap = refl
 
 one_command : (a b : Command) → (row a).name ≡ (row b).name → a ≡ b
 one_command a b same = cc (sym (found a) ∙ (ap named same ∙ found b))
@@ -73,6 +79,7 @@ one_value Creates word a b p q = sym p ∙ q
 one_value ASet word a b p q = sym p.0 ∙ q.0
 one_value AnAmount word a b p q = one_amount word a b p q
 one_value (ANumber limit) word a b p q = decimal_injective a b (omega (arith, p.1.small)) (omega (arith, q.1.small)) (sym p.0 ∙ q.0)
+one_value (ACount limit) word a b p q = let one = p.1.up_to.small in let other = q.1.up_to.small in decimal_injective a b (omega (arith, one)) (omega (arith, other)) (sym p.0 ∙ q.0)
 
 one_values : (kinds : List Kind) (words : List (List ℕ)) (a b : Values kinds) → SayAll kinds words a → SayAll kinds words b → a ≡ b
 one_values [] [] a b p q = refl

@@ -6,7 +6,7 @@ use Rattle.std.proofs.lemmas.Bool.{or_parts}
 use Rattle.std.specs.declared.alloc.Global.{Global}
 use Rattle.goseed_words.specs.declared.order.WordError.{WordError}
 use Rattle.goseed_words.specs.declared.order.WordError.TheVariants.{BadWord}
-use Rattle.goseed_words.specs.Commands.{Form, Kind, Reads, Creates, ASet, AnAmount, ANumber, Command, row}
+use Rattle.goseed_words.specs.Commands.{Form, Kind, Reads, Creates, ASet, AnAmount, ANumber, ACount, Command, row}
 use Rattle.goseed_words.specs.Asked.{HasOperand, Fits, IsFirstBad}
 use Rattle.goseed_words.specs.declared.order.Order.{Order}
 use Rattle.goseed_words.specs.Orders.{texts, IsWordFault, Means}
@@ -18,6 +18,7 @@ creates Creates = true
 creates ASet = false
 creates AnAmount = false
 creates (ANumber limit) = false
+creates (ACount limit) = false
 
 abbrev pub reads : Kind → Bool
 reads (Reads form) = true
@@ -25,6 +26,7 @@ reads Creates = false
 reads ASet = false
 reads AnAmount = false
 reads (ANumber limit) = false
+reads (ACount limit) = false
 
 -- of operands none of which is of some kinds, none is of one of these
 none_of : (is : Kind → Bool) (kind : Kind) (kinds : List Kind) (words : List (List ℕ)) (name : List ℕ) → is kind ≡ true → list_any is kinds ≡ false → ¬ HasOperand kinds words kind name

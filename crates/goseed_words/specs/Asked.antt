@@ -1,5 +1,5 @@
 -- What words ask for: a command, with a value for each operand.
-use Rattle.std.specs.Prelude.{◌≡◌, ℕ, ◌+◌, zero, suc, List, [], ◌∷◌, ◌⊎◌, length, true}
+use Rattle.std.specs.Prelude.{◌≡◌, ℕ, ◌+◌, zero, suc, List, [], ◌∷◌, ◌⊎◌, Contains, length, true}
 use Rattle.goseed_words.specs.Commands.{Form, Kind, Reads, Creates, Value, Says, IsLawfulValue, Command, row}
 
 -- a value for each of these operands
@@ -77,11 +77,11 @@ AreLawful (kind ∷ kinds) values = IsLawfulValue kind values.0 × AreLawful kin
 abbrev pub IsLawful : Asked → Type 0
 IsLawful asked = AreLawful (row asked.command).operands asked.values
 
--- the words are a command's name and operands, and one of them is this name, which the command creates
+-- the words are a command's name and operands, and the command creates this name: one of the operands, or whatever they are
 pub record IsCreated (words : List (List ℕ)) (name : List ℕ) : Type 0 where
   pub command : Command
   pub fits : Fits words command
-  pub created : HasOperand (row command).operands fits.operands Creates name
+  pub created : HasOperand (row command).operands fits.operands Creates name ⊎ Contains (row command).creates name
 
 -- the words ask for a command that reads what has this name as this
 pub record AsksToRead (words : List (List ℕ)) (form : Form) (name : List ℕ) : Type 0 where

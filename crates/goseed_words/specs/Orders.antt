@@ -5,7 +5,7 @@ use Rattle.goseed_words.specs.declared.order.Order.{Order}
 use Rattle.goseed_words.specs.declared.order.Order.TheVariants as order
 use Rattle.goseed_words.specs.declared.order.WordError.{WordError}
 use Rattle.goseed_words.specs.declared.order.WordError.TheVariants.{Usage, BadWord}
-use Rattle.goseed_words.specs.Commands.{Command, Best, Weigh, Check, Relax, Plan, Pinned}
+use Rattle.goseed_words.specs.Commands.{Command, Best, Weigh, Check, Relax, Plan, Pinned, Gen, Greedy, Gap}
 use Rattle.goseed_words.specs.Asked.{Asked, Asks, Fits, HasBadWord, asking}
 
 -- the words' bytes
@@ -20,6 +20,9 @@ asked_of (order.Check recipe certificate) = asking Check recipe.now certificate.
 asked_of (order.Relax recipe target slack inside outside) = asking Relax recipe.now target slack inside.now outside.now
 asked_of (order.Plan recipe document target slack nodes) = asking Plan recipe.now document.now target slack nodes
 asked_of (order.Pinned recipe document target slack nodes go stay) = asking Pinned recipe.now document.now target slack nodes go.now stay.now
+asked_of (order.Gen number files) = asking Gen number files
+asked_of (order.Greedy recipe target slack) = asking Greedy recipe.now target slack
+asked_of (order.Gap recipe certificate) = asking Gap recipe.now certificate.now
 
 -- usage: no command fits; a bad word: one fits, and this is the place of the first word that says nothing of its kind
 abbrev pub IsWordFault : List (List ℕ) → WordError → Type 0

@@ -2,12 +2,13 @@
 ghost use Rattle.std.specs.Prelude.{◌≡◌, ◌∷◌, ℕ, codes, IfOk, IfErr};
 ghost use Rattle.goseed_words.specs.Amounts.{SpellsAmount};
 ghost use Rattle.goseed_words.specs.Asked.{IsLawful};
-ghost use Rattle.goseed_words.specs.Commands.{ANumber, Says};
+ghost use Rattle.goseed_words.specs.Commands.{ACount, ANumber, Says};
 ghost use Rattle.goseed_words.specs.Orders.{asked_of, texts, Means};
 ghost use Rattle.seed_text.specs.SetWords.{IsSetWord};
 
 use crate::amount::{Amount, amount_of};
 use crate::operands::{five, seven, three, two};
+use seed_model::limits::MOST_FILES;
 use seed_model::read_number;
 use seed_text::is_set_word;
 
@@ -65,10 +66,26 @@ pub enum Order<'w> {
         go: &'w str,
         stay: &'w str,
     },
+    /// Draw a recipe of so many files from a number, plan with it, and judge the certificate.
+    Gen {
+        number: u32,
+        files: u32,
+    },
+    /// Find a set of the files of a recipe greedily.
+    Greedy {
+        recipe: &'w str,
+        target: Amount,
+        slack: Amount,
+    },
+    /// Compare a certificate's bound with what a set replicates that is found greedily.
+    Gap {
+        recipe: &'w str,
+        certificate: &'w str,
+    },
 }
 
-/// The most branchings of a search.
-const MOST_NODES: u32 = 65_535;
+/// The most branchings of a search, and the greatest number that a recipe is drawn from.
+const MOST_NUMBER: u32 = 65_535;
 
 /// The order that words mean, the first word being the command. It takes no memory.
 pub fn order_of<'w>(words: &'w [String]) -> Result<Order<'w>, WordError>
@@ -85,6 +102,9 @@ pub fn order_of<'w>(words: &'w [String]) -> Result<Order<'w>, WordError>
         "relax" => relax_of(operands),
         "plan" => plan_of(operands),
         "pinned" => pinned_of(operands),
+        "gen" => gen_of(operands),
+        "greedy" => greedy_of(operands),
+        "gap" => gap_of(operands),
         _ => Err(WordError::Usage),
     }
 }
@@ -203,15 +223,71 @@ fn pinned_of<'w>(operands: &'w [String]) -> Result<Order<'w>, WordError>
     })
 }
 
-/// The number of branchings that the word at a place spells.
+/// The order `gen` with these operands.
+fn gen_of<'w>(operands: &'w [String]) -> Result<Order<'w>, WordError>
+    ensures meaning { Means (codes "gen" ∷ texts operands.now) result }
+    ensures lawful { IfOk result (λ order. IsLawful (asked_of order)) }
+{
+    let Some((number, files)) = two(operands) else {
+        return Err(WordError::Usage);
+    };
+    let number = number_at(2, number)?;
+    let files = count_at(3, files)?;
+    Ok(Order::Gen { number, files })
+}
+
+/// The order `greedy` with these operands.
+fn greedy_of<'w>(operands: &'w [String]) -> Result<Order<'w>, WordError>
+    ensures meaning { Means (codes "greedy" ∷ texts operands.now) result }
+    ensures lawful { IfOk result (λ order. IsLawful (asked_of order)) }
+{
+    let Some((recipe, target, slack)) = three(operands) else {
+        return Err(WordError::Usage);
+    };
+    let target = amount_at(3, target)?;
+    let slack = amount_at(4, slack)?;
+    Ok(Order::Greedy {
+        recipe,
+        target,
+        slack,
+    })
+}
+
+/// The order `gap` with these operands.
+fn gap_of<'w>(operands: &'w [String]) -> Result<Order<'w>, WordError>
+    ensures meaning { Means (codes "gap" ∷ texts operands.now) result }
+    ensures lawful { IfOk result (λ order. IsLawful (asked_of order)) }
+{
+    let Some((recipe, certificate)) = two(operands) else {
+        return Err(WordError::Usage);
+    };
+    Ok(Order::Gap {
+        recipe,
+        certificate,
+    })
+}
+
+/// The number that the word at a place spells: of branchings, or one to draw from.
 fn number_at(place: u32, word: &str) -> Result<u32, WordError>
     ensures found { IfOk result (λ number. Says (ANumber 65535) word.now number) }
     ensures error { IfErr result (λ error. error ≡ WordError.BadWord place) }
     ensures none { IfErr result (λ error. (number : ℕ) → ¬ Says (ANumber 65535) word.now number) }
 {
-    match read_number(word.as_bytes(), MOST_NODES as u128) {
+    match read_number(word.as_bytes(), MOST_NUMBER as u128) {
         Some(number) => Ok(number as u32),
         None => Err(WordError::BadWord { place }),
+    }
+}
+
+/// The count of files that the word at a place spells.
+fn count_at(place: u32, word: &str) -> Result<u32, WordError>
+    ensures found { IfOk result (λ count. Says (ACount 16383) word.now count) }
+    ensures error { IfErr result (λ error. error ≡ WordError.BadWord place) }
+    ensures none { IfErr result (λ error. (count : ℕ) → ¬ Says (ACount 16383) word.now count) }
+{
+    match read_number(word.as_bytes(), MOST_FILES as u128) {
+        Some(count) if count != 0 => Ok(count as u32),
+        _ => Err(WordError::BadWord { place }),
     }
 }
 

@@ -49,7 +49,7 @@ module _ (sums : KeepsSums) (table : TableValue) where
   pub replicated_same : (set : ℕ → Bool) → replicated_of set (merged table) ≡ replicated_of set table
   replicated_same set = sums table (λ users. list_any set users && not (list_all set users))
 
-  by_chunks : (range : Range) (root : Node) (set : ℕ → Bool) → IsAdmitted (merged table) range root set → IsAdmitted table range root set
+  pub by_chunks : (range : Range) (root : Node) (set : ℕ → Bool) → IsAdmitted (merged table) range root set → IsAdmitted table range root set
   by_chunks range root set a =
       let same = migrated_same set in
       let enough = a.in_range.enough in
@@ -173,25 +173,25 @@ pub check_refused : (tells : Bool) (map : Told) (first name : List ℕ) (status 
 check_refused tells map first name status text over = inl (record { given = over.given; told = over.told; holds = inl over.holds })
 
 -- the bytes that a name has are one
-one_held : (given : Told) (name a b : List ℕ) → given name ≡ Some a → given name ≡ Some b → a ≡ b
+pub one_held : (given : Told) (name a b : List ℕ) → given name ≡ Some a → given name ≡ Some b → a ≡ b
 one_held given name a b p q = cc (sym p ∙ q)
 
 module _ (one_failure : OneFailure) (unfailed : RunsOnUnfailed) (failed : FailureIsNotValid) (one_document : OneDocument) where
   -- a certificate of which a judgement fails is not valid
-  not_valid : (given : Told) (name : List ℕ) (recipe : RecipeValue) (one other : Status) (text told : List ℕ) → PrintsFailure given name one text recipe → PrintsValid given name other told recipe → ⊥
+  pub not_valid : (given : Told) (name : List ℕ) (recipe : RecipeValue) (one other : Status) (text told : List ℕ) → PrintsFailure given name one text recipe → PrintsValid given name other told recipe → ⊥
   not_valid given name recipe one other text told p q =
       let bytes = one_held given name p.held.bytes q.held.bytes p.held.held q.held.reads.held in
       failed (judged_table recipe) q.held.bytes p.line p.rule (subst (λ (t : List ℕ). FailsFirst (judged_table recipe) t p.line p.rule) bytes p.held.fails.failure)
       (record { heading = q.heading; nodes = q.nodes; document = q.held.document; text_is = q.held.text_is; valid = q.held.valid })
 
   -- one that runs on has no such judgement, and is longer than one that is read
-  runs_apart : (given : Told) (name bytes : List ℕ) (recipe : RecipeValue) (one : Status) (text : List ℕ) → given name ≡ Some bytes → RunsOn (judged_table recipe) MOST_CERTIFICATE_BYTES bytes
+  pub runs_apart : (given : Told) (name bytes : List ℕ) (recipe : RecipeValue) (one : Status) (text : List ℕ) → given name ≡ Some bytes → RunsOn (judged_table recipe) MOST_CERTIFICATE_BYTES bytes
       → PrintsFailure given name one text recipe → ⊥
   runs_apart given name bytes recipe one text held runs q =
       let same = one_held given name bytes q.held.bytes held q.held.held in
       unfailed (judged_table recipe) MOST_CERTIFICATE_BYTES q.held.bytes q.line q.rule (subst (RunsOn (judged_table recipe) MOST_CERTIFICATE_BYTES) same runs) q.held.fails
 
-  runs_long : (given : Told) (name bytes : List ℕ) (recipe : RecipeValue) (one : Status) (text : List ℕ) → given name ≡ Some bytes → RunsOn (judged_table recipe) MOST_CERTIFICATE_BYTES bytes
+  pub runs_long : (given : Told) (name bytes : List ℕ) (recipe : RecipeValue) (one : Status) (text : List ℕ) → given name ≡ Some bytes → RunsOn (judged_table recipe) MOST_CERTIFICATE_BYTES bytes
       → PrintsValid given name one text recipe → ⊥
   runs_long given name bytes recipe one text held runs q =
       let same = ap (λ (t : List ℕ). length t) (one_held given name bytes q.held.bytes held q.held.reads.held) in
@@ -199,7 +199,7 @@ module _ (one_failure : OneFailure) (unfailed : RunsOnUnfailed) (failed : Failur
       let short = q.held.reads.short in
       omega (arith, same, long, short)
 
-  same_failure : (given : Told) (name : List ℕ) (recipe : RecipeValue) (one other : Status) (text told : List ℕ) → PrintsFailure given name one text recipe → PrintsFailure given name other told recipe
+  pub same_failure : (given : Told) (name : List ℕ) (recipe : RecipeValue) (one other : Status) (text told : List ℕ) → PrintsFailure given name one text recipe → PrintsFailure given name other told recipe
       → IsSame one other text told
   same_failure given name recipe one other text told p q =
       let bytes = one_held given name p.held.bytes q.held.bytes p.held.held q.held.held in

@@ -97,7 +97,7 @@ module _ (one_spelling : OneSpelling)
       let errors = one_fault (rows_of q.bytes) p.refused.error q.refused.error fault q.refused.fault in
       refused (no_recipe q.refused.error) one other text told (subst (λ (e : RecipeError). Refuses (no_recipe e) one text) errors p.refused.refuses) q.refused.refuses
 
-  same_reading : {Same : Type 0} (given : Told) (name : List ℕ) (First Second : RecipeValue → Type 0) (one other : Status) (text told : List ℕ) → (IsRefused one other text told → Same)
+  pub same_reading : {Same : Type 0} (given : Told) (name : List ℕ) (First Second : RecipeValue → Type 0) (one other : Status) (text told : List ℕ) → (IsRefused one other text told → Same)
       → ((recipe : RecipeValue) → First recipe → Second recipe → Same) → RecipeEnds given name one text First → RecipeEnds given name other told Second → Same
   same_reading given name First Second one other text told refusal rest (inl p) (inl q) = refusal (same_lack given name one other text told p q)
   same_reading given name First Second one other text told refusal rest (inl p) (inr q) = absurd (not_both given name q.recipe one text q.held p)

@@ -50,11 +50,11 @@ none_is Infeasible status is ended_no = refl
 none_is Open status is ended_no = cc (is, ended_no)
 
 -- a best plan, as a certificate claims it
-record BestClaim (recipe : RecipeValue) (range : Range) (root : Node) (plan : Option Claimed) : Type 0 where
-  claimed : Claimed
-  is : plan ≡ Some claimed
-  best : IsBestAdmitted (table_of recipe) range root (holds (set_named (length recipe.files) claimed.set))
-  replicated : claimed.replicated ≡ replicated_of (holds (set_named (length recipe.files) claimed.set)) (table_of recipe)
+pub record BestClaim (recipe : RecipeValue) (range : Range) (root : Node) (plan : Option Claimed) : Type 0 where
+  pub claimed : Claimed
+  pub is : plan ≡ Some claimed
+  pub best : IsBestAdmitted (table_of recipe) range root (holds (set_named (length recipe.files) claimed.set))
+  pub replicated : claimed.replicated ≡ replicated_of (holds (set_named (length recipe.files) claimed.set)) (table_of recipe)
 
 best_claim : KeepsSums → (recipe : RecipeValue) (range other : Range) (root given : Node) (plan : Option Claimed) (bound : Option ℕ)
     → Says (table_of recipe) range root Optimal (plan_named (length recipe.files) plan) bound → IfSome plan (IsClaim (judged_table recipe) other given) → BestClaim recipe range root plan
@@ -91,7 +91,7 @@ has_replicated recipe heading nodes claimed is =
 
 module _ (sums : KeepsSums) (recipe : RecipeValue) (range : Range) (pins : Option Node) (budget : ℕ) where
   -- a search that is done has a best plan
-  done_best : (status : Status) (text : List ℕ) (now : Option (List ℕ)) (p : PrintsSearched recipe range pins budget status text now) → status ≡ ended.Done
+  pub done_best : (status : Status) (text : List ℕ) (now : Option (List ℕ)) (p : PrintsSearched recipe range pins budget status text now) → status ≡ ended.Done
       → BestClaim recipe range (search_root (length recipe.files) pins) p.heading.plan
   done_best status text now p done =
       let heading = p.heading in
@@ -100,7 +100,7 @@ module _ (sums : KeepsSums) (recipe : RecipeValue) (range : Range) (pins : Optio
       (subst (λ (a : Answer). Says (table_of recipe) range (search_root (length recipe.files) pins) a plan heading.bound) (done_is heading.answer status p.answers done) p.says) p.searched.valid.plan
 
   -- one whose answer is no shows that none is admitted
-  none_shown : (status : Status) (text : List ℕ) (now : Option (List ℕ)) (p : PrintsSearched recipe range pins budget status text now) → status ≡ ended.No
+  pub none_shown : (status : Status) (text : List ℕ) (now : Option (List ℕ)) (p : PrintsSearched recipe range pins budget status text now) → status ≡ ended.No
       → NoneAdmitted (table_of recipe) range (search_root (length recipe.files) pins)
   none_shown status text now p ended_no =
       let heading = p.heading in

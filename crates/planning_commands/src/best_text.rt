@@ -58,7 +58,7 @@ pub(crate) fn add_plan(
 }
 
 /// Puts a line for each file of a plan behind a text.
-pub(crate) fn add_files(text: &mut Vec<u8>, recipe: &Recipe, plan: &PlanSet) -> Result<(), NoMemory>
+pub fn add_files(text: &mut Vec<u8>, recipe: &Recipe, plan: &PlanSet) -> Result<(), NoMemory>
     requires { length plan.now ≡ length recipe.now.files }
     ensures { OnOk result (text.new.items ≡ text.old.items ++ file_lines (holds plan.now) recipe.now.files) }
 {

@@ -27,7 +27,7 @@ pub(crate) fn text_of_checked(
 }
 
 /// What `check` prints of the first judgement that fails.
-fn text_of_failure(alloc: Global, line: u64, rule: u8) -> Result<Vec<u8>, NoMemory>
+pub fn text_of_failure(alloc: Global, line: u64, rule: u8) -> Result<Vec<u8>, NoMemory>
     ensures { IfOk result (λ text. text.items ≡ failure_text line rule) }
 {
     let mut text = Vec::new(alloc);

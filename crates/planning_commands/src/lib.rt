@@ -3,16 +3,16 @@
 
 mod answer_text;
 pub mod best;
-mod best_text;
+pub mod best_text;
 pub mod check;
-mod checked_text;
+pub mod checked_text;
 pub mod laws;
-mod merged_table;
+pub mod merged_table;
 mod node_words;
 pub mod plan;
 mod plan_text;
-mod ranges;
-mod reading;
+pub mod ranges;
+pub mod reading;
 pub mod relax;
 mod relax_text;
 pub mod weigh;

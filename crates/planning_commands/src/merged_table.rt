@@ -16,7 +16,7 @@ use std::alloc::Global;
 
 /// The recipe's table with a class for each set of users. Each sum of a set of files, and so what is best, is that of the
 /// table with a class for each chunk.
-pub(crate) fn merged_table(alloc: Global, recipe: &Recipe) -> Result<Table, NoMemory>
+pub fn merged_table(alloc: Global, recipe: &Recipe) -> Result<Table, NoMemory>
     requires { IsRecipe recipe.now }
     ensures files { IfOk result (λ table. table.files ≡ length recipe.now.files) }
     ensures table { IfOk result (λ table. table ≡ merged (table_of recipe.now)) }

@@ -157,14 +157,16 @@ fn search_of<F: Shelf>(
 
 /// A range, the files that must go and those that must stay, if any, and how many branchings may be made.
 #[derive(Drop)]
-struct Sought<'a> {
-    range: Range,
-    pins: Option<&'a Node>,
-    nodes: u32,
+pub struct Sought<'a> {
+    pub range: Range,
+    pub pins: Option<&'a Node>,
+    /// 0 to 65,535.
+    pub nodes: u32,
 }
 
-/// Searches over the table of a recipe, and writes the certificate under a name.
-fn search_by<F: Shelf>(
+/// Searches over the table of a recipe, and writes the certificate under a name. The report is what `plan` and `pinned` print
+/// of the outcome. Where a call of the shelf fails or memory runs out, the name is as before or has a front of the certificate.
+pub fn search_by<F: Shelf>(
     alloc: Global,
     shelf: &mut F,
     recipe: &Recipe,

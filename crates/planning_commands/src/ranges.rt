@@ -8,7 +8,7 @@ use seed_model::limits::MOST_BYTES;
 use seed_model::{Range, range_of};
 
 /// The range of a target and a slack, percents being those of a total.
-pub(crate) fn range_within(total: u64, target: Amount, slack: Amount) -> Range
+pub fn range_within(total: u64, target: Amount, slack: Amount) -> Range
     requires total { total ≤ MOST_BYTES }
     requires target { IsAmount target }
     requires slack { IsAmount slack }

@@ -17,7 +17,7 @@ use seed_model::NoMemory;
 use std::alloc::Global;
 
 /// The recipe of a name; or the report of the command that is refused, since the name gives none.
-pub(crate) fn recipe_named<F: Shelf>(
+pub fn recipe_named<F: Shelf>(
     alloc: Global,
     shelf: &mut F,
     name: &str,

@@ -1,4 +1,4 @@
-use Rattle.std.proofs.Common.{◌∷◌, [], inl, inr}
+use Rattle.std.proofs.Common.{◌∷◌, [], refl, inl, inr}
 use Rattle.std.proofs.lemmas.Result.{IfOk-weaker}
 use Rattle.command_endings.specs.Worlds.{Creating, Reading}
 use Rattle.command_endings.proofs.WorldLemmas.{reads, on_shelf}
@@ -8,7 +8,11 @@ use Rattle.planning_commands.specs.Plan.{PlanEnds, PinnedEnds}
 use Rattle.planning_commands.specs.Relax.{RelaxEnds}
 use Rattle.goseed_words.specs.Commands.{Recipe, AnAmount, ANumber, ASet, Plan, Pinned}
 use Rattle.goseed_words.proofs.OperandLemmas.{second_created}
-use Rattle.goseed_top.proofs.RunLemmas.{leaves_created}
+use Rattle.goseed_top.specs.Endings.{Checking, Drawing, Gapping}
+use Rattle.goseed_top.proofs.RunLemmas.{created_drawn, leaves_created, leaves_names}
+use Rattle.trial_commands.specs.Gap.{GapEnds}
+use Rattle.trial_commands.specs.Gen.{GenEnds, document_name}
+use Rattle.trial_commands.specs.Greedy.{GreedyEnds}
 use Rattle.planning_commands.specs.Weigh.{WeighEnds}
 use Rattle.goseed_top.proofs.command.report_of_order.Goals as goal
 
@@ -33,7 +37,7 @@ returns-in-Check-clause-report g c = rw c.in-Check.is
     (let E = CheckEnds c.in-Check.recipe.now c.in-Check.certificate.now in
     IfOk-weaker c.check.result _ _ (λ report ends. elim ends [
       | inl over ↦ inl (on_shelf _ _ _ _ _ (Reading E) _ _ (reads _ _ _ E _ _ c.check.ensures.same over))
-      | inr hears ↦ inr (λ words asks. record { recipe = c.in-Check.recipe.now; certificate = c.in-Check.certificate.now; asks = asks; heard = hears })
+      | inr hears ↦ inr (λ words asks. Checking c.in-Check.recipe.now c.in-Check.certificate.now asks hears)
     ]) c.check.ensures.report)
 
 pub relax-requires-clause-target : goal.relax-requires-clause-target
@@ -66,13 +70,13 @@ returns-in-Plan-clause-left g c = λ told words asked.
     let asks = rw c.in-Plan.is at asked in
     let E = Creating c.in-Plan.document.now (PlanEnds c.in-Plan.recipe.now c.in-Plan.target c.in-Plan.slack c.in-Plan.nodes) in
     leaves_created _ _ words c.in-Plan.document.now c.args.order E asked
-    (record { command = Plan; fits = asks.fits; created = second_created Recipe (AnAmount ∷ AnAmount ∷ ANumber 65535 ∷ []) asks.fits.operands _ asks.say })
+    (record { command = Plan; fits = asks.fits; created = inl (second_created Recipe (AnAmount ∷ AnAmount ∷ ANumber 65535 ∷ []) asks.fits.operands _ asks.say) })
     (λ found left status text ends. rw c.in-Plan.is ends) (c.plan.ensures.left told)
 
 pub returns-in-Plan-clause-same : goal.returns-in-Plan-clause-same
 returns-in-Plan-clause-same g c = λ words asked none.
     let asks = rw c.in-Plan.is at asked in
-    absurd (none c.in-Plan.document.now (record { command = Plan; fits = asks.fits; created = second_created Recipe (AnAmount ∷ AnAmount ∷ ANumber 65535 ∷ []) asks.fits.operands _ asks.say }))
+    absurd (none c.in-Plan.document.now (record { command = Plan; fits = asks.fits; created = inl (second_created Recipe (AnAmount ∷ AnAmount ∷ ANumber 65535 ∷ []) asks.fits.operands _ asks.say) }))
 
 pub pinned-requires-clause-target : goal.pinned-requires-clause-target
 pinned-requires-clause-target g c = (rw c.in-Pinned.is at c.requires).1.1.0
@@ -93,10 +97,55 @@ returns-in-Pinned-clause-left g c = λ told words asked.
     let asks = rw c.in-Pinned.is at asked in
     let E = Creating c.in-Pinned.document.now (PinnedEnds c.in-Pinned.recipe.now c.in-Pinned.target c.in-Pinned.slack c.in-Pinned.nodes c.in-Pinned.go.now c.in-Pinned.stay.now) in
     leaves_created _ _ words c.in-Pinned.document.now c.args.order E asked
-    (record { command = Pinned; fits = asks.fits; created = second_created Recipe (AnAmount ∷ AnAmount ∷ ANumber 65535 ∷ ASet ∷ ASet ∷ []) asks.fits.operands _ asks.say })
+    (record { command = Pinned; fits = asks.fits; created = inl (second_created Recipe (AnAmount ∷ AnAmount ∷ ANumber 65535 ∷ ASet ∷ ASet ∷ []) asks.fits.operands _ asks.say) })
     (λ found left status text ends. rw c.in-Pinned.is ends) (c.pinned.ensures.left told)
 
 pub returns-in-Pinned-clause-same : goal.returns-in-Pinned-clause-same
 returns-in-Pinned-clause-same g c = λ words asked none.
     let asks = rw c.in-Pinned.is at asked in
-    absurd (none c.in-Pinned.document.now (record { command = Pinned; fits = asks.fits; created = second_created Recipe (AnAmount ∷ AnAmount ∷ ANumber 65535 ∷ ASet ∷ ASet ∷ []) asks.fits.operands _ asks.say }))
+    absurd (none c.in-Pinned.document.now (record { command = Pinned; fits = asks.fits; created = inl (second_created Recipe (AnAmount ∷ AnAmount ∷ ANumber 65535 ∷ ASet ∷ ASet ∷ []) asks.fits.operands _ asks.say) }))
+
+pub draw-requires-clause-number : goal.draw-requires-clause-number
+draw-requires-clause-number g c = (rw c.in-Gen.is at c.requires).0.within
+
+pub draw-requires-clause-some : goal.draw-requires-clause-some
+draw-requires-clause-some g c = (rw c.in-Gen.is at c.requires).1.0.some
+
+pub draw-requires-clause-few : goal.draw-requires-clause-few
+draw-requires-clause-few g c = (rw c.in-Gen.is at c.requires).1.0.up_to.within
+
+pub returns-in-Gen-clause-report : goal.returns-in-Gen-clause-report
+returns-in-Gen-clause-report g c = rw c.in-Gen.is
+    (IfOk-weaker c.draw.result _ _ (λ report ends. elim ends [
+      | inl over ↦ inl (on_shelf _ _ _ _ _ (GenEnds c.in-Gen.number c.in-Gen.files) _ _ over)
+      | inr hears ↦ inr (λ words asks. Drawing c.in-Gen.number c.in-Gen.files asks hears)
+    ]) c.draw.ensures.report)
+
+pub returns-in-Gen-clause-left : goal.returns-in-Gen-clause-left
+returns-in-Gen-clause-left g c = λ told words asked.
+    leaves_names _ _ words c.in-Gen.number c.in-Gen.files c.args.order asked (rw c.in-Gen.is at asked)
+    (λ found left status text ends. rw c.in-Gen.is ends) (c.draw.ensures.left told)
+
+pub returns-in-Gen-clause-same : goal.returns-in-Gen-clause-same
+returns-in-Gen-clause-same g c = λ words asked none.
+    let asks = rw c.in-Gen.is at asked in
+    absurd (none document_name (created_drawn words document_name c.in-Gen.number c.in-Gen.files asks (inr refl)))
+
+pub greedy-requires-clause-target : goal.greedy-requires-clause-target
+greedy-requires-clause-target g c = (rw c.in-Greedy.is at c.requires).1.0
+
+pub greedy-requires-clause-slack : goal.greedy-requires-clause-slack
+greedy-requires-clause-slack g c = (rw c.in-Greedy.is at c.requires).1.1.0
+
+pub returns-in-Greedy-clause-report : goal.returns-in-Greedy-clause-report
+returns-in-Greedy-clause-report g c = rw c.in-Greedy.is
+    (let E = GreedyEnds c.in-Greedy.recipe.now c.in-Greedy.target c.in-Greedy.slack in
+    IfOk-weaker c.greedy.result _ _ (λ report over. inl (on_shelf _ _ _ _ _ (Reading E) _ _ (reads _ _ _ E _ _ c.greedy.ensures.same over))) c.greedy.ensures.report)
+
+pub returns-in-Gap-clause-report : goal.returns-in-Gap-clause-report
+returns-in-Gap-clause-report g c = rw c.in-Gap.is
+    (let E = GapEnds c.in-Gap.recipe.now c.in-Gap.certificate.now in
+    IfOk-weaker c.gap.result _ _ (λ report ends. elim ends [
+      | inl over ↦ inl (on_shelf _ _ _ _ _ (Reading E) _ _ (reads _ _ _ E _ _ c.gap.ensures.same over))
+      | inr hears ↦ inr (λ words asks. Gapping c.in-Gap.recipe.now c.in-Gap.certificate.now asks hears)
+    ]) c.gap.ensures.report)

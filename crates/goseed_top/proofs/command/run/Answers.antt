@@ -2,18 +2,18 @@ use Rattle.std.proofs.Common.{inl, ap}
 use Rattle.std.specs.Prelude.{Err}
 use Rattle.seed_io.specs.declared.sink.SinkError.{SinkError}
 use Rattle.goseed_top.proofs.CommandLemmas.{answers_cause, not_stopped}
-use Rattle.goseed_top.proofs.PlanningLemmas.{plans}
+use Rattle.goseed_top.proofs.PlanningLemmas.{draws, plans}
 use Rattle.goseed_top.proofs.RunLemmas.{front_printed}
 use Rattle.goseed_top.proofs.command.run.Goals as goal
 
 pub returns-in-Ok-push-clause-cause : goal.returns-in-Ok-push-clause-cause
-returns-in-Ok-push-clause-cause g c = λ inside room. let laws = c.planning_laws.ensures in answers_cause laws.best laws.weigh laws.check laws.relax laws.plan laws.pinned _ _ _ _ _ c.in-Ok.ensures.report
+returns-in-Ok-push-clause-cause g c = λ inside room. let laws = c.planning_laws.ensures in let trials = c.trial_laws.ensures in answers_cause laws.best laws.weigh laws.check laws.relax laws.plan laws.pinned trials.drawing trials.greedy trials.gap _ _ _ _ _ c.in-Ok.ensures.report
 
 pub returns-in-Ok-push-clause-outside : goal.returns-in-Ok-push-clause-outside
-returns-in-Ok-push-clause-outside g c = λ is. let laws = c.planning_laws.ensures in absurd (not_stopped laws.best laws.weigh laws.check laws.relax laws.plan laws.pinned _ _ _ _ _ c.in-Ok.ensures.report (inl is))
+returns-in-Ok-push-clause-outside g c = λ is. let laws = c.planning_laws.ensures in let trials = c.trial_laws.ensures in absurd (not_stopped laws.best laws.weigh laws.check laws.relax laws.plan laws.pinned trials.drawing trials.greedy trials.gap _ _ _ _ _ c.in-Ok.ensures.report (inl is))
 
 pub returns-in-Ok-push-clause-part : goal.returns-in-Ok-push-clause-part
-returns-in-Ok-push-clause-part g c = λ told stopped. let laws = c.planning_laws.ensures in absurd (not_stopped laws.best laws.weigh laws.check laws.relax laws.plan laws.pinned _ _ _ _ _ c.in-Ok.ensures.report stopped)
+returns-in-Ok-push-clause-part g c = λ told stopped. let laws = c.planning_laws.ensures in let trials = c.trial_laws.ensures in absurd (not_stopped laws.best laws.weigh laws.check laws.relax laws.plan laws.pinned trials.drawing trials.greedy trials.gap _ _ _ _ _ c.in-Ok.ensures.report stopped)
 
 pub returns-in-Err-Fault-clause-part : goal.returns-in-Err-Fault-clause-part
 returns-in-Err-Fault-clause-part g c = λ told stopped.
@@ -24,4 +24,9 @@ pub returns-in-Ok-push-clause-planned : goal.returns-in-Ok-push-clause-planned
 returns-in-Ok-push-clause-planned g c = λ tells outside memory.
     let laws = c.planning_laws.ensures in
     plans laws.one _ _ _ _ _ _ _ tells tells
+    (record { text = c.in-Ok.report.text.items; ends = c.in-Ok.ensures.report; taken = λ told. (rw c.deref.ensures.value at (c.in-Ok-push.ensures.taken told)).ok })
+
+pub returns-in-Ok-push-clause-drawn : goal.returns-in-Ok-push-clause-drawn
+returns-in-Ok-push-clause-drawn g c = λ tells outside memory.
+    draws _ _ _ _ _ _ _ tells tells
     (record { text = c.in-Ok.report.text.items; ends = c.in-Ok.ensures.report; taken = λ told. (rw c.deref.ensures.value at (c.in-Ok-push.ensures.taken told)).ok })

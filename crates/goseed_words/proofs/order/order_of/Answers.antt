@@ -25,3 +25,15 @@ returns-in-plan-clause-meaning c =
 pub returns-in-pinned-clause-meaning : goal.returns-in-pinned-clause-meaning
 returns-in-pinned-clause-meaning c =
     rw (command_words c.args.words.now c.in-Some.operands.now c.in-Some.command.now (codes "pinned") _ c.in-Some.ensures.cases.0 c.as_str.ensures.value c.in-pinned.is) c.pinned_of.ensures.meaning
+
+pub returns-in-gen-clause-meaning : goal.returns-in-gen-clause-meaning
+returns-in-gen-clause-meaning c =
+    rw (command_words c.args.words.now c.in-Some.operands.now c.in-Some.command.now (codes "gen") _ c.in-Some.ensures.cases.0 c.as_str.ensures.value c.in-gen.is) c.gen_of.ensures.meaning
+
+pub returns-in-greedy-clause-meaning : goal.returns-in-greedy-clause-meaning
+returns-in-greedy-clause-meaning c =
+    rw (command_words c.args.words.now c.in-Some.operands.now c.in-Some.command.now (codes "greedy") _ c.in-Some.ensures.cases.0 c.as_str.ensures.value c.in-greedy.is) c.greedy_of.ensures.meaning
+
+pub returns-in-gap-clause-meaning : goal.returns-in-gap-clause-meaning
+returns-in-gap-clause-meaning c =
+    rw (command_words c.args.words.now c.in-Some.operands.now c.in-Some.command.now (codes "gap") _ c.in-Some.ensures.cases.0 c.as_str.ensures.value c.in-gap.is) c.gap_of.ensures.meaning

@@ -1,0 +1,5 @@
+mod CauseLemmas
+mod DeterminedLemmas
+pub mod GenLemmas
+mod OneChoice
+mod TrialLemmas
