@@ -1,5 +1,11 @@
 // Calls of a volume, each behind the test of what it requires.
+ghost use Rattle.std.specs.Prelude.{◌≡◌, ◌≤◌, ◌^◌, IsSomeAnd};
+ghost use Rattle.file_names.specs.FileNames.{IsFileName};
+ghost use Rattle.std.specs.FinMap as fin_map;
+ghost use Rattle.std.specs.String.{string_bytes};
+
 use chunk_volume::{VolError, Volume};
+use file_names::is_file_name;
 use sha2::{Digest, Sha256};
 use std::alloc::Global;
 use volume_disk::MemRack;
@@ -41,6 +47,45 @@ pub(crate) fn put_chunk(
     }
     let name = Sha256::digest(bytes);
     volume.put_chunk(rack, &name, bytes)
+}
+
+/// Puts a file of one chunk, where its name is lawful, the chunk is held, and there is no file yet.
+pub(crate) fn put_file(
+    alloc: Global,
+    volume: &mut Volume,
+    rack: &mut MemRack,
+    name: String,
+    chunk: &[u8; 32],
+) -> Result<(), VolError> {
+    if !is_file_name(name.as_str()) || volume.holding().file_count() != 0 {
+        return Err(VolError::Exists);
+    }
+    let Some(len) = volume.holding().chunk_len(chunk) else {
+        return Err(VolError::NoSuchFile);
+    };
+    if 1_048_576 < len {
+        return Err(VolError::NoSuchFile);
+    }
+    put_only_file(alloc, volume, rack, name, chunk)
+}
+
+// Puts a file of one chunk that is held.
+fn put_only_file(
+    alloc: Global,
+    volume: &mut Volume,
+    rack: &mut MemRack,
+    name: String,
+    chunk: &[u8; 32],
+) -> Result<(), VolError>
+    requires lawful { IsFileName (string_bytes name) }
+    requires none { fin_map.len volume.old.shape.files ≡ 0 }
+    requires held { IsSomeAnd (fin_map.get volume.old.shape.chunks chunk.now) (λ len. len ≤ 2 ^ 20) }
+{
+    let mut chunks = Vec::new(alloc);
+    if chunks.push(*chunk).is_err() {
+        return Err(VolError::Memory);
+    }
+    volume.put_file(rack, name, chunks)
 }
 
 /// Drops a chunk, where the volume holds it and no file uses it.

@@ -57,6 +57,11 @@ pub(crate) fn small(alloc: Global) -> Option<(MemRack, Volume)> {
     volume_of(alloc, SMALL)
 }
 
+/// A rack with the log of the chunk, and its volume.
+pub(crate) fn chunk_alone(alloc: Global) -> Option<(MemRack, Volume)> {
+    volume_of(alloc, CHUNK)
+}
+
 /// A rack with no log, and its volume.
 pub(crate) fn blank(alloc: Global) -> Option<(MemRack, Volume)> {
     volume_of(alloc, b"")
@@ -80,6 +85,11 @@ fn is_image(rack: &MemRack, image: &[u8]) -> bool {
 /// Whether the first device has the log of the chunk and the file with another first byte of the chunk.
 pub(crate) fn is_changed(rack: &MemRack) -> bool {
     is_image(rack, CHANGED)
+}
+
+/// Whether the first device has the log of the chunk and the file.
+pub(crate) fn is_small(rack: &MemRack) -> bool {
+    is_image(rack, SMALL)
 }
 
 /// Whether the first device has the log of the chunk alone.

@@ -6,6 +6,10 @@ mod calls;
 #[cfg(test)]
 mod changing;
 #[cfg(test)]
+mod counting;
+#[cfg(test)]
+mod files;
+#[cfg(test)]
 mod images;
 #[cfg(test)]
 mod indexes;
