@@ -27,11 +27,7 @@ const SOUGHT: [Case; 6] = [
         Status::Done,
         "greedy 80\nmigrated 20\nreplicated 10\nturns 2\nrounds 1\nfile a\n",
     ),
-    (
-        "greedy|r.csv|60|0",
-        Status::No,
-        "greedy none\nturns 2\n",
-    ),
+    ("greedy|r.csv|60|0", Status::No, "greedy none\nturns 2\n"),
     (
         "greedy|r.csv|0|0",
         Status::Done,
@@ -199,8 +195,13 @@ fn draws_forty_files(alloc: Global) -> bool {
     let Some(mut shelf) = shelf_with(alloc, &[]) else {
         return false;
     };
-    ends_with(alloc, &mut shelf, "gen|7|40", Some(Status::Done), "check yes\n")
-        && starts_with(alloc, &mut shelf, "check|gen.csv|gen.doc", "check yes\n")
+    ends_with(
+        alloc,
+        &mut shelf,
+        "gen|7|40",
+        Some(Status::Done),
+        "check yes\n",
+    ) && starts_with(alloc, &mut shelf, "check|gen.csv|gen.doc", "check yes\n")
         && starts_with(alloc, &mut shelf, "gap|gen.csv|gen.doc", "greedy ")
 }
 
@@ -217,13 +218,25 @@ fn hears_another(alloc: Global) -> bool {
     let Ok(mut shelf) = OtherShelf::with(alloc, "goseed 1\nrange 0 1\n") else {
         return false;
     };
-    ends_with(alloc, &mut shelf, "gen|1|2", Some(Status::No), "file f1\ncheck no 3 1\n")
+    ends_with(
+        alloc,
+        &mut shelf,
+        "gen|1|2",
+        Some(Status::No),
+        "file f1\ncheck no 3 1\n",
+    )
 }
 
 /// Whether it is refused, where the shelf gives back none.
 fn hears_none(alloc: Global) -> bool {
     let mut shelf = OtherShelf::without(alloc);
-    ends(alloc, &mut shelf, "gen|1|2", Status::Refused(2), "refused 2 gen.doc\n")
+    ends(
+        alloc,
+        &mut shelf,
+        "gen|1|2",
+        Status::Refused(2),
+        "refused 2 gen.doc\n",
+    )
 }
 
 /// Whether `gen` ends outside where this call of the shelf fails, and leaves these bytes of the recipe's text.

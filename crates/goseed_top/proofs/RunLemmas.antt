@@ -1,5 +1,5 @@
 -- How commands end and what they leave, from what their words mean.
-use Rattle.std.proofs.Common.{◌≡◌, ℕ, List, ◌++◌, Bool, true, false, refl, sym, ap, inl, inr, take, arith}
+use Rattle.std.proofs.Common.{◌≡◌, ◌∙◌, ℕ, List, ◌++◌, Bool, true, false, refl, sym, ap, inl, inr, take, arith}
 use Rattle.std.specs.Prelude.{◌⊎◌, Result, Ok, Err, option_map}
 use Rattle.seed_io.specs.Shelf.{Told}
 use Rattle.volume_disk.specs.Disk.{Disk}

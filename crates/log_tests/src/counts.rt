@@ -64,9 +64,9 @@ fn run_on_log(rack: &mut MemRack, call: Call, frame: &Frame) -> Option<()>
         Call::Walk => {
             log.walk(rack, 0).ok()?;
         }
-        Call::ReadBody => {
-            let mut none = [0u8; 0];
-            log.read_body(rack, 0, &mut none).ok()?;
+        Call::ReadBody if 6 <= log.end() => {
+            let mut byte = [0u8; 1];
+            log.read_body(rack, 5, &mut byte).ok()?;
         }
         _ => {}
     }

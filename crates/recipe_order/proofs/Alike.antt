@@ -1,6 +1,5 @@
 -- What is in range, or best, in a recipe is so by name in one that is equal but for its order.
-use Rattle.std.specs.Prelude.{Contains}
-use Rattle.std.proofs.Common.{◌≡◌, ◌∙◌, ◌<◌, ◌≤◌, ℕ, List, Bool, sym, ap, refl, length, arith}
+use Rattle.std.proofs.Common.{◌∙◌, ℕ, Bool, sym, ap, length, arith}
 use Rattle.seed_model.specs.declared.range.Range.{Range}
 use Rattle.seed_model.specs.Best.{IsBest, NoneInRange}
 use Rattle.seed_model.specs.Ranges.{InRange}
@@ -8,8 +7,7 @@ use Rattle.seed_model.specs.SumLaws.{AgreesBelow}
 use Rattle.seed_model.proofs.ClassSums.{files_alone}
 use Rattle.incidence.proofs.ChunkTables.{is_table}
 use Rattle.recipe_reader.specs.Lawful.{IsRecipe}
-use Rattle.recipe_reader.specs.Recipes.{RecipeValue, file_number, table_of}
-use Rattle.recipe_reader.specs.WrittenRows.{file_at}
+use Rattle.recipe_reader.specs.Recipes.{RecipeValue, table_of}
 use Rattle.recipe_order.specs.Laws.{AreAlike, HaveSameSums, KeepsRange, KeepsBest, KeepsNone, CarriesSums, CarriesRange, CarriesBest, IsReflexive, IsSymmetric, IsTransitive, HoldsOfSame}
 use Rattle.recipe_order.specs.Reordered.{named_set, names_of, carried_set}
 use Rattle.recipe_order.proofs.Names.{keyed, number_of_file}

@@ -1,11 +1,11 @@
 -- A recipe that is copied from another one, file by file and chunk by chunk.
-use Rattle.std.specs.Prelude.{◌⊎◌, ◌==◌, Contains, All, map, Option, option_map}
-use Rattle.std.proofs.Common.{◌≡◌, ◌∙◌, ◌+◌, ◌<◌, ◌≤◌, ◌∷◌, ◌++◌, [], ℕ, zero, suc, List, Bool, Some, None, true, false, refl, sym, ap, subst, length, slice_get, get_or, arith, inl, inr}
+use Rattle.std.specs.Prelude.{◌⊎◌, Contains, map, option_map}
+use Rattle.std.proofs.Common.{◌≡◌, ◌∙◌, ◌<◌, ◌≤◌, ◌∷◌, ◌++◌, [], ℕ, zero, suc, List, Bool, Some, true, refl, sym, ap, subst, length, slice_get, arith, inl, inr}
 use Rattle.std.specs.Cmp.Lexicographic.{same_text}
-use Rattle.std.specs.List.{IsDistinct, list_any}
+use Rattle.std.specs.List.{list_any}
 use Rattle.std.proofs.lemmas.Bool.{cases_Bool}
 use Rattle.std.proofs.lemmas.List.{length-map, length_push}
-use Rattle.std.proofs.lemmas.List.Elements.{All-contains, All-push, Contains-append_left, Contains-get_or, Contains-push}
+use Rattle.std.proofs.lemmas.List.Elements.{All-contains, All-push, Contains-append_left, Contains-get_or}
 use Rattle.std.proofs.lemmas.Option.{same_Some, slice_get-map, slice_get_within}
 use Rattle.list_facts.specs.Firsts.{with_new}
 use Rattle.list_facts.proofs.FirstAppearance.{any_new, contains_with_new}
@@ -13,7 +13,7 @@ use Rattle.list_facts.proofs.Numbering.{place}
 use Rattle.recipe_reader.specs.AddFaults.{IsLimitFault, IsPairFault}
 use Rattle.recipe_reader.specs.Lawful.{IsRecipe, IsPairBelow}
 use Rattle.recipe_reader.specs.Limits.{IsWithinLimits, KeepsSize, PassesFirst}
-use Rattle.recipe_reader.specs.Recipes.{NamedChunk, RecipeValue, is_named, is_chunk, is_pair, file_number, chunk_number, name_at, size_at, with_file, with_pair}
+use Rattle.recipe_reader.specs.Recipes.{NamedChunk, RecipeValue, is_named, is_chunk, is_pair, file_number, chunk_number, with_file, with_pair}
 use Rattle.recipe_reader.specs.Same.{UsesByName}
 use Rattle.recipe_reader.specs.declared.error.AddError.{AddError}
 use Rattle.recipe_reader.specs.declared.error.AddError.TheVariants.{Clash, TooMany, Memory}

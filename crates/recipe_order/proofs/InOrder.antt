@@ -1,33 +1,32 @@
 -- The files of a recipe in an order have its files, chunks and pairs.
-use Rattle.std.specs.Prelude.{◌==◌, Contains, All, map}
-use Rattle.std.proofs.Common.{◌≡◌, ◌∙◌, ◌+◌, ◌<◌, ◌≤◌, ◌∷◌, ◌++◌, [], ℕ, zero, suc, List, Bool, Some, true, false, refl, sym, ap, subst, length, slice_get, get_or, arith, inl, inr, append_assoc}
+use Rattle.std.specs.Prelude.{◌==◌, Contains, map}
+use Rattle.std.proofs.Common.{◌≡◌, ◌∙◌, ◌<◌, ◌∷◌, ◌++◌, [], ℕ, List, Some, true, false, refl, sym, ap, subst, length, slice_get, get_or, arith, inl, inr, append_assoc}
 use Rattle.std.specs.Cmp.{nat_eq_equiv}
 use Rattle.std.specs.List.{IsDistinct, fold, list_any, range_with_len}
 use Rattle.std.specs.List.Sorted.{IsPermutation}
 use Rattle.std.proofs.lemmas.Bool.{cases_Bool, and_parts, eqb-true}
 use Rattle.std.proofs.lemmas.List.{append-nil, get_or_append_left, get_or_default, length-append}
-use Rattle.std.proofs.lemmas.List.Elements.{Contains-get_or, All-contains}
+use Rattle.std.proofs.lemmas.List.Elements.{Contains-get_or}
 use Rattle.std.proofs.lemmas.List.Folds.{list_any_none}
 use Rattle.std.proofs.lemmas.List.FromFn.{fill_by_all, get_or-range_with_len, length-range_with_len}
 use Rattle.std.proofs.lemmas.List.Sorted.{Contains-permutation, IsPermutation-map}
 use Rattle.std.proofs.lemmas.Map.Keys.{IsDistinct-IsPermutation, apart_from_distinct}
 use Rattle.std.proofs.lemmas.Map.Views.{list_any-from_Contains}
-use Rattle.std.proofs.lemmas.Option.{get_or_from_slice_get, slice_get-map, slice_get_within}
 use Rattle.std.proofs.Math.Seq.{get_or-append_seam}
 use Rattle.list_facts.specs.Firsts.{with_new}
 use Rattle.list_facts.proofs.FirstAppearance.{any_new}
 use Rattle.recipe_reader.specs.Lawful.{IsRecipe}
-use Rattle.recipe_reader.specs.Recipes.{NamedChunk, RecipeValue, empty_recipe, file_number, chunk_number, is_chunk, is_named, is_pair, name_at, with_file, with_pair}
+use Rattle.recipe_reader.specs.Recipes.{NamedChunk, RecipeValue, empty_recipe, file_number, chunk_number, is_named, is_pair, name_at, with_file, with_pair}
 use Rattle.recipe_reader.specs.Same.{UsesByName}
 use Rattle.recipe_reader.specs.WrittenRows.{chunks_used, file_at}
 use Rattle.recipe_reader.proofs.Keeping.{empty_keeps, named_equiv, pair_equiv}
-use Rattle.recipe_reader.proofs.Sizes.{contains_at, one_of_name}
+use Rattle.recipe_reader.proofs.Sizes.{one_of_name}
 use Rattle.recipe_reader.proofs.Subsets.{cons_cases, contains_head, contains_tail}
 use Rattle.recipe_order.specs.Orders.{IsOrder}
 use Rattle.recipe_order.specs.Parts.{IsPartOf}
 use Rattle.recipe_order.specs.Reordered.{IsReordered}
 use Rattle.recipe_order.specs.Sorted.{IsSorted, chunk_at, in_order, with_chunks_of, with_file_of}
-use Rattle.recipe_order.proofs.Copying.{chunk_there, file_named, kept_file, kept_pair, names, new_pair}
+use Rattle.recipe_order.proofs.Copying.{file_named, kept_file, kept_pair, new_pair}
 use Rattle.recipe_order.proofs.Names.{keyed, no_chunk, name_is, numbered, pair_below, uses_of_pair}
 
 -- ---- the chunks of a file

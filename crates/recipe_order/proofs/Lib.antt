@@ -7,6 +7,7 @@ pub mod Names
 pub mod NamedSums
 pub mod OneOrder
 pub mod Ordering
+pub mod Pinned
 pub mod Sharing
 pub mod InOrder
 pub mod Steps

@@ -1,6 +1,6 @@
 -- When a recipe has all of another one, and when two are one but for their order.
 use Rattle.std.specs.Prelude.{◌==◌, ◌↔◌, Contains, All, map, replicate, Option, Result, Ok, Err, is_ok, IfNone, IfOk, IfSome, IsTrue}
-use Rattle.std.proofs.Common.{◌≡◌, ◌≢◌, ◌∙◌, ◌+◌, ◌<◌, ◌≤◌, [], ℕ, zero, suc, List, Bool, None, Some, eq-eqb, true, false, refl, sym, ap, subst, length, slice_get, get_or, arith, inl, inr}
+use Rattle.std.proofs.Common.{◌≡◌, ◌≢◌, ◌∙◌, ◌+◌, ◌<◌, ◌≤◌, [], ℕ, zero, suc, List, Bool, None, Some, eq-eqb, true, false, refl, sym, ap, subst, length, get_or, arith, inl, inr}
 use Rattle.std.specs.Cmp.Lexicographic.{same_text}
 use Rattle.std.specs.List.{list_any, position_or_len}
 use Rattle.std.specs.List.Sorted.{IsBinarySearchResult, IsStrictlyIncreasing}
@@ -16,9 +16,9 @@ use Rattle.incidence.proofs.Exact.{users_exact}
 use Rattle.std.proofs.lemmas.List.Elements.{All-contains, Contains-get_or}
 use Rattle.std.proofs.lemmas.Map.Views.{list_any-from_Contains}
 use Rattle.std.proofs.lemmas.Option.{get_or_from_slice_get}
-use Rattle.list_facts.proofs.Numbering.{list_any-map, place, place-map}
+use Rattle.list_facts.proofs.Numbering.{place, place-map}
 use Rattle.recipe_reader.specs.Lawful.{IsRecipe, IsPairBelow}
-use Rattle.recipe_reader.specs.Recipes.{NamedChunk, RecipeValue, chunk_number, file_number, is_chunk, is_named, is_pair, name_at, size_at, users_of}
+use Rattle.recipe_reader.specs.Recipes.{NamedChunk, RecipeValue, chunk_number, file_number, is_chunk, is_named, is_pair, name_at, users_of}
 use Rattle.recipe_reader.specs.Same.{UsesByName}
 use Rattle.recipe_reader.specs.WrittenRows.{file_at}
 use Rattle.recipe_reader.proofs.Keeping.{chunk_equiv, named_equiv, pair_equiv}
@@ -28,7 +28,7 @@ use Rattle.recipe_order.specs.Matching.{AreAmong, AreAsLarge, AreNumbers, HaveSi
 use Rattle.recipe_order.specs.Parts.{IsPartOf}
 use Rattle.recipe_order.specs.Reordered.{IsReordered, carried_set}
 use Rattle.recipe_order.proofs.NameLists.{all_there, among_names, name_among, number_at, number_within, numbers_length}
-use Rattle.recipe_order.proofs.Names.{chunk_by_name, keyed, name_is, no_chunk, number_of_chunk, numbered, size_is, uses_of_pair}
+use Rattle.recipe_order.proofs.Names.{chunk_by_name, keyed, name_is, no_chunk, numbered, size_is, uses_of_pair}
 use Rattle.recipe_order.proofs.Within.{carried_differ, carried_pair, carried_within, contains-map_from, exact_pair, pairs_within}
 
 -- the number of a chunk by its name
@@ -155,7 +155,7 @@ reordered_from a b h large p = record {
   );
   chunks = λ c. (
     λ there. all_there (λ (c : NamedChunk). is_chunk c.name) chunk_equiv b.chunks a.chunks p.recipe.chunks_differ p.chunks (omega (arith, large.chunks)) c
-    (λ z in_b same. one_of_name a.chunks z c h.chunks_differ (p.chunks z in_b) there (sym (same_text c.name z.name (sym same)))) there,
+        (λ z in_b same. one_of_name a.chunks z c h.chunks_differ (p.chunks z in_b) there (sym (same_text c.name z.name (sym same)))) there,
     p.chunks c,
   );
   pairs = λ file chunk. (back_pair a b h large p file chunk, p.pairs file chunk);

@@ -1,5 +1,5 @@
 -- Lists of names, and the numbers of names in them.
-use Rattle.std.specs.Prelude.{◌⊎◌, ◌==◌, Contains, All, map, Option}
+use Rattle.std.specs.Prelude.{Contains, map}
 use Rattle.std.proofs.Common.{◌≡◌, ◌∙◌, ◌+◌, ◌<◌, ◌≤◌, ◌∷◌, ◌++◌, [], ℕ, List, Bool, Some, None, true, false, refl, sym, ap, subst, length, take, get_or, arith, inl, inr}
 use Rattle.std.specs.Cmp.{IsEquivalence}
 use Rattle.std.specs.Cmp.Lexicographic.{same_text}

@@ -1,7 +1,7 @@
 -- Recipes that are one but for their order have the same sums of every set of names.
-use Rattle.std.specs.Prelude.{◌==◌, ◌&&◌, not, Contains, map, sum_by, if◌then◌else◌}
-use Rattle.std.proofs.Common.{◌≡◌, ◌∙◌, ◌+◌, ◌<◌, ◌≤◌, ◌∷◌, [], ℕ, List, Bool, Some, true, false, refl, sym, ap, length, get_or, arith, inl, inr, eq-eqb}
-use Rattle.std.specs.List.{list_all, list_any, range_with_len}
+use Rattle.std.specs.Prelude.{◌==◌, ◌&&◌, not, map, sum_by, if◌then◌else◌}
+use Rattle.std.proofs.Common.{◌≡◌, ◌∙◌, ◌∷◌, [], ℕ, List, Bool, true, refl, sym, ap, length, arith, inl, inr, eq-eqb}
+use Rattle.std.specs.List.{list_all, list_any}
 use Rattle.std.proofs.lemmas.Bool.{cases_Bool, eqb-true}
 use Rattle.std.proofs.lemmas.List.{get_or-map, length-map}
 use Rattle.std.proofs.lemmas.List.FromFn.{fill_by_all}
@@ -10,14 +10,14 @@ use Rattle.list_facts.proofs.Numbering.{place}
 use Rattle.seed_model.specs.declared.table.Class.{Class}
 use Rattle.seed_model.specs.Sums.{bytes_where}
 use Rattle.recipe_reader.specs.Lawful.{IsRecipe}
-use Rattle.recipe_reader.specs.Recipes.{NamedChunk, RecipeValue, bytes_of, chunk_class, chunk_number, file_number, is_chunk, is_pair, name_at, size_at, table_of, users_of}
+use Rattle.recipe_reader.specs.Recipes.{NamedChunk, RecipeValue, chunk_class, chunk_number, file_number, is_chunk, is_pair, name_at, table_of, users_of}
 use Rattle.recipe_reader.specs.WrittenRows.{file_at}
 use Rattle.recipe_reader.proofs.Keeping.{chunk_equiv}
 use Rattle.recipe_reader.proofs.Subsets.{sum_within}
 use Rattle.incidence.proofs.ChunkTables.{sum_by-map}
 use Rattle.incidence.proofs.Exact.{users_exact}
-use Rattle.recipe_order.specs.Laws.{AreAlike, HaveSameSums, KeepsSums, KeepsBytes}
-use Rattle.recipe_order.specs.Reordered.{IsReordered, named_set}
+use Rattle.recipe_order.specs.Laws.{AreAlike, KeepsSums, KeepsBytes}
+use Rattle.recipe_order.specs.Reordered.{named_set}
 use Rattle.recipe_order.proofs.Names.{keyed, no_chunk, name_is, size_is, number_of_chunk, chunk_by_name, pair_below, uses_of_pair, numbered}
 
 pub turned : (a b : RecipeValue) → AreAlike a b → AreAlike b a

@@ -1,6 +1,6 @@
 -- Files, chunks and pairs of a lawful recipe, by name and by number.
 use Rattle.std.specs.Prelude.{◌==◌, Contains, All, map}
-use Rattle.std.proofs.Common.{◌≡◌, ◌∙◌, ◌<◌, ℕ, List, [], Some, true, false, refl, sym, ap, subst, length, slice_get, get_or, arith, inl, inr}
+use Rattle.std.proofs.Common.{◌≡◌, ◌∙◌, ◌<◌, ℕ, List, [], Some, true, sym, ap, length, slice_get, get_or, arith, inl, inr}
 use Rattle.std.specs.Cmp.Lexicographic.{same_text}
 use Rattle.std.specs.List.{IsDistinct, list_any}
 use Rattle.std.proofs.lemmas.Bool.{cases_Bool, and_parts, eqb-true}

@@ -1,8 +1,7 @@
 -- The steps by which a recipe is copied in an order.
-use Rattle.std.specs.Prelude.{Contains, All, Result, Ok, Err, IfOk}
-use Rattle.std.proofs.Common.{◌≡◌, ◌∙◌, ◌+◌, ◌<◌, ◌≤◌, [], ℕ, List, Some, refl, sym, ap, subst, length, take, slice_get, get_or, arith}
-use Rattle.std.specs.List.{fold, range_with_len}
-use Rattle.std.specs.List.Sorted.{IsPermutation}
+use Rattle.std.specs.Prelude.{Contains, All}
+use Rattle.std.proofs.Common.{◌≡◌, ◌∙◌, ◌+◌, ◌<◌, ◌≤◌, [], ℕ, List, Some, sym, ap, subst, length, take, slice_get, get_or, arith}
+use Rattle.std.specs.List.{range_with_len}
 use Rattle.std.proofs.lemmas.List.{take_all}
 use Rattle.std.proofs.lemmas.List.Elements.{Contains-get_or}
 use Rattle.std.proofs.lemmas.List.FromFn.{get_or-range_with_len, length-range_with_len}
@@ -23,7 +22,7 @@ use Rattle.recipe_order.specs.Orders.{IsOrder}
 use Rattle.recipe_order.specs.Parts.{IsPartOf}
 use Rattle.recipe_order.specs.Sorted.{chunk_at, in_order, with_chunks_of, with_file_of}
 use Rattle.recipe_order.proofs.Copying.{chunk_there, file_memory, pair_memory, part_file, part_pair}
-use Rattle.recipe_order.proofs.InOrder.{chunk_listed, chunks_files, number_there, uses_listed}
+use Rattle.recipe_order.proofs.InOrder.{chunks_files, number_there, uses_listed}
 
 -- a chunk as it is read
 chunk_read : (r : RecipeValue) (chunk : ℕ) (bytes : List ℕ) (size : ℕ) → bytes ≡ name_at r chunk → size ≡ size_at r chunk → let c : NamedChunk = record { name = bytes; size = size } in c ≡ chunk_at r chunk

@@ -1,6 +1,6 @@
 -- A recipe whose parts are all another's is no larger.
-use Rattle.std.specs.Prelude.{◌==◌, ◌&&◌, Contains, All, map}
-use Rattle.std.proofs.Common.{◌≡◌, ◌∙◌, ◌<◌, ◌≤◌, ◌∷◌, [], ℕ, List, Bool, true, false, refl, sym, ap, subst, length, get_or, arith, inl, inr}
+use Rattle.std.specs.Prelude.{◌==◌, Contains, map}
+use Rattle.std.proofs.Common.{◌≡◌, ◌∙◌, ◌<◌, ◌≤◌, ◌∷◌, [], ℕ, List, true, sym, ap, subst, length, get_or, arith, inl, inr}
 use Rattle.std.specs.List.{IsDistinct, list_any}
 use Rattle.std.proofs.lemmas.Bool.{cases_Bool, and_parts, eqb-true}
 use Rattle.std.proofs.lemmas.List.{get_or-map, length-map}

@@ -2,6 +2,7 @@ pub mod Laws
 pub mod Matching
 pub mod Orders
 pub mod Parts
+pub mod Pins
 pub mod Places
 pub mod Reordered
 pub mod Sorted

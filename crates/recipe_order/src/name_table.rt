@@ -1,5 +1,5 @@
 // Names that are looked up.
-ghost use Rattle.std.specs.Prelude.{◌≡◌, ◌∷◌, ◌++◌, [], ℕ, List, length, false, IfOk, IfSome, IfNone, OnOk, slice_index_or, take};
+ghost use Rattle.std.specs.Prelude.{◌≡◌, ◌∷◌, ◌++◌, [], false, IfNone, IfOk, IfSome, OnOk};
 ghost use Rattle.std.specs.List.{list_any};
 ghost use Rattle.list_facts.specs.Firsts.{IsNumberOf};
 ghost use Rattle.recipe_reader.specs.Recipes.{is_named};

@@ -3,7 +3,9 @@ use Rattle.std.specs.Prelude.{Err}
 use Rattle.seed_io.specs.declared.sink.SinkError.{SinkError}
 use Rattle.goseed_top.proofs.CommandLemmas.{answers_cause, not_stopped}
 use Rattle.goseed_top.proofs.PlanningLemmas.{draws, plans}
-use Rattle.goseed_top.proofs.RunLemmas.{front_printed}
+use Rattle.goseed_words.specs.Orders.{texts}
+use Rattle.command_endings.specs.Worlds.{seen}
+use Rattle.goseed_top.proofs.RunLemmas.{front_printed, leaves_others}
 use Rattle.goseed_top.proofs.command.run.Goals as goal
 
 pub returns-in-Ok-push-clause-cause : goal.returns-in-Ok-push-clause-cause
@@ -30,3 +32,23 @@ pub returns-in-Ok-push-clause-drawn : goal.returns-in-Ok-push-clause-drawn
 returns-in-Ok-push-clause-drawn g c = λ tells outside memory.
     draws _ _ _ _ _ _ _ tells tells
     (record { text = c.in-Ok.report.text.items; ends = c.in-Ok.ensures.report; taken = λ told. (rw c.deref.ensures.value at (c.in-Ok-push.ensures.taken told)).ok })
+
+pub returns-in-Err-Outside-clause-others : goal.returns-in-Err-Outside-clause-others
+returns-in-Err-Outside-clause-others g c = λ tells name none.
+    leaves_others (seen (g.F.Shelf.tells c.args.shelf.now) (g.F.Shelf.map c.args.shelf.now) (g.R.Rack.honest c.args.rack.now) (g.R.Rack.disk c.args.rack.now)) _ (texts c.args.words.now) (c.report_of.ensures.left tells) name none
+
+pub returns-in-Err-Memory-clause-others : goal.returns-in-Err-Memory-clause-others
+returns-in-Err-Memory-clause-others g c = λ tells name none.
+    leaves_others (seen (g.F.Shelf.tells c.args.shelf.now) (g.F.Shelf.map c.args.shelf.now) (g.R.Rack.honest c.args.rack.now) (g.R.Rack.disk c.args.rack.now)) _ (texts c.args.words.now) (c.report_of.ensures.left tells) name none
+
+pub returns-in-Ok-push-clause-others : goal.returns-in-Ok-push-clause-others
+returns-in-Ok-push-clause-others g c = λ tells name none.
+    leaves_others (seen (g.F.Shelf.tells c.args.shelf.now) (g.F.Shelf.map c.args.shelf.now) (g.R.Rack.honest c.args.rack.now) (g.R.Rack.disk c.args.rack.now)) _ (texts c.args.words.now) (c.report_of.ensures.left tells) name none
+
+pub returns-in-Err-Fault-clause-others : goal.returns-in-Err-Fault-clause-others
+returns-in-Err-Fault-clause-others g c = λ tells name none.
+    leaves_others (seen (g.F.Shelf.tells c.args.shelf.now) (g.F.Shelf.map c.args.shelf.now) (g.R.Rack.honest c.args.rack.now) (g.R.Rack.disk c.args.rack.now)) _ (texts c.args.words.now) (c.report_of.ensures.left tells) name none
+
+pub returns-clause-others : goal.returns-clause-others
+returns-clause-others g c = λ tells name none.
+    leaves_others (seen (g.F.Shelf.tells c.args.shelf.now) (g.F.Shelf.map c.args.shelf.now) (g.R.Rack.honest c.args.rack.now) (g.R.Rack.disk c.args.rack.now)) _ (texts c.args.words.now) (c.report_of.ensures.left tells) name none

@@ -5,13 +5,19 @@ use Rattle.recipe_order.proofs.Matched.{all_told, if_none, if_some, part_files, 
 use Rattle.recipe_order.proofs.matching.has_all.Goals as goal
 
 pub returns-in_default : goal.returns-in_default
-returns-in_default c = (λ e. cc e, λ p.
-    absurd (if_none (¬ AreAmong c.args.whole.now.files c.args.part.now.files) c.in_ok-files.field-0 c.in_default.is c.in_ok-files.ensures.none (part_files c.args.whole.now c.args.part.now p)))
+returns-in_default c = (
+  λ e. cc e,
+  λ p.
+      absurd (if_none (¬ AreAmong c.args.whole.now.files c.args.part.now.files) c.in_ok-files.field-0 c.in_default.is c.in_ok-files.ensures.none (part_files c.args.whole.now c.args.part.now p)),
+)
 
 pub returns-in_default-2 : goal.returns-in_default-2
-returns-in_default-2 c = (λ e. cc e, λ p.
-    absurd (if_none (¬ AreAmong (chunk_names c.args.whole.now) (chunk_names c.args.part.now)) c.in_ok-chunks.field-0 c.in_default-2.is c.in_ok-chunks.ensures.none
-    (part_names c.args.whole.now c.args.part.now p)))
+returns-in_default-2 c = (
+  λ e. cc e,
+  λ p.
+      absurd (if_none (¬ AreAmong (chunk_names c.args.whole.now) (chunk_names c.args.part.now)) c.in_ok-chunks.field-0 c.in_default-2.is c.in_ok-chunks.ensures.none
+      (part_names c.args.whole.now c.args.part.now p)),
+)
 
 pub has_sizes-requires : goal.has_sizes-requires
 has_sizes-requires c =
@@ -44,7 +50,9 @@ returns-then-has_sizes c =
 pub returns : goal.returns
 returns c =
     let Chunks : Vec ℕ Global → Type 0 = λ v. AreNumbers (chunk_names c.args.whole.now) (chunk_names c.args.part.now) v.items in
-    let cs = if_some Chunks c.in_ok-chunks.field-0 c.in-Some-2.chunks c.in-Some-2.is c.in_ok-chunks.ensures.found in
-    (λ e. cc e, λ p.
-        let sized = sizes_told c.args.whole.now c.args.part.now c.in-Some-2.chunks.items c.deref.result.now c.has_sizes.result c.files-whole.ensures.recipe cs c.deref.ensures.value c.has_sizes.ensures p in
-        cc (sized, c.if-has_sizes.false))
+    let cs = if_some Chunks c.in_ok-chunks.field-0 c.in-Some-2.chunks c.in-Some-2.is c.in_ok-chunks.ensures.found in (
+      λ e. cc e,
+      λ p.
+          let sized = sizes_told c.args.whole.now c.args.part.now c.in-Some-2.chunks.items c.deref.result.now c.has_sizes.result c.files-whole.ensures.recipe cs c.deref.ensures.value c.has_sizes.ensures p in
+          cc (sized, c.if-has_sizes.false),
+    )

@@ -39,10 +39,12 @@ overflow_cast-chunk-in-loop-pair c =
 
 pub returns-then-not-has_pair : goal.returns-then-not-has_pair
 returns-then-not-has_pair c =
-    let told = stands_is c.args.whole.now c.args.part.now c.args.files.now c.args.chunks.now c.pairs-pair-items.result.now c.loop-pair.pair-index c.has_pair.result c.pairs-pair-items.ensures.pairs c.has_pair.ensures in
-    (λ e k d lt. cc e, λ all.
-        let stands = all c.loop-pair.pair-index (0, 0) (omega (arith, ap length c.pairs-pair-items.ensures.pairs, c.loop-pair-test.true)) in
-        sym c.if-not-has_pair.true ∙ (told ∙ stands))
+    let told = stands_is c.args.whole.now c.args.part.now c.args.files.now c.args.chunks.now c.pairs-pair-items.result.now c.loop-pair.pair-index c.has_pair.result c.pairs-pair-items.ensures.pairs c.has_pair.ensures in (
+      λ e k d lt. cc e,
+      λ all.
+          let stands = all c.loop-pair.pair-index (0, 0) (omega (arith, ap length c.pairs-pair-items.ensures.pairs, c.loop-pair-test.true)) in
+          sym c.if-not-has_pair.true ∙ (told ∙ stands),
+    )
 
 pub loop-pair-preserved : goal.loop-pair-preserved
 loop-pair-preserved c =

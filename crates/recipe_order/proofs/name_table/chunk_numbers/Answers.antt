@@ -1,4 +1,4 @@
-use Rattle.std.proofs.Common.{◌∙◌, [], List, ℕ, arith, subst, sym}
+use Rattle.std.proofs.Common.{[], List, ℕ, arith, subst, sym}
 use Rattle.recipe_order.specs.Matching.{AreNumbers, chunk_names}
 use Rattle.recipe_order.proofs.Matched.{names_length}
 use Rattle.recipe_order.proofs.NameLists.{numbers_all, numbers_more, numbers_none}

@@ -1,4 +1,4 @@
-use Rattle.std.proofs.Common.{◌∙◌, arith}
+use Rattle.std.proofs.Common.{arith}
 use Rattle.recipe_order.specs.Matching.{chunk_names}
 use Rattle.recipe_order.proofs.Matched.{names_length}
 use Rattle.recipe_order.proofs.NameLists.{names_differ, table_all, table_more, table_new}

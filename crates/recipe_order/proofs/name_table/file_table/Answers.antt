@@ -1,7 +1,5 @@
 use Rattle.std.proofs.Common.{◌∙◌, arith}
-use Rattle.recipe_order.specs.Matching.{chunk_names}
-use Rattle.recipe_order.proofs.Matched.{names_length}
-use Rattle.recipe_order.proofs.NameLists.{names_differ, table_all, table_more, table_new}
+use Rattle.recipe_order.proofs.NameLists.{table_all, table_more, table_new}
 use Rattle.recipe_order.proofs.name_table.file_table.Goals as goal
 
 pub push-requires : goal.push-requires

@@ -1,5 +1,4 @@
 use Rattle.std.proofs.Common.{◌≡◌, take}
-use Rattle.recipe_order.specs.Matching.{chunk_names}
 use Rattle.recipe_order.proofs.name_table.file_table.Given as goal
 
 abbrev pub invariant-loop-file : goal.invariant-loop-file

@@ -1,7 +1,6 @@
 use Rattle.std.proofs.Common.{◌<◌, ap, arith, get_or, length}
 use Rattle.incidence.proofs.Made.{files-below}
-use Rattle.recipe_order.proofs.InOrder.{nothing_part}
-use Rattle.recipe_order.proofs.Steps.{in_order_all, in_order_more, list_length, list_read}
+use Rattle.recipe_order.proofs.Steps.{in_order_more, list_length, list_read}
 use Rattle.recipe_order.proofs.sorting.copy_in_order.Goals as goal
 
 pub group-requires : goal.group-requires
