@@ -205,6 +205,31 @@ fn draws_forty_files(alloc: Global) -> bool {
         && starts_with(alloc, &mut shelf, "gap|gen.csv|gen.doc", "greedy ")
 }
 
+/// What a command prints over the small recipe; none where memory ran out.
+fn text_of(alloc: Global, words: &str) -> Option<Vec<u8>> {
+    let mut shelf = shelf_with(alloc, &[])?;
+    match printed(alloc, &mut shelf, words) {
+        Some((_, text)) => Some(text),
+        None => None,
+    }
+}
+
+/// Whether a command prints this over the small recipe.
+fn prints(alloc: Global, words: &str, want: &[u8]) -> bool {
+    match text_of(alloc, words) {
+        Some(text) => text.as_slice() == want,
+        None => false,
+    }
+}
+
+/// Whether a command prints the same twice, with this as its last line.
+fn prints_twice(alloc: Global, words: &str, line: &str) -> bool {
+    match text_of(alloc, words) {
+        Some(text) => text.as_slice().ends_with(line.as_bytes()) && prints(alloc, words, &text),
+        None => false,
+    }
+}
+
 /// Whether a command prints this first over a shelf.
 fn starts_with<F: Shelf>(alloc: Global, shelf: &mut F, words: &str, line: &str) -> bool {
     match printed(alloc, shelf, words) {
@@ -279,6 +304,11 @@ fn gen_draws_and_plans(rt: HostRuntime) {
 #[test]
 fn gen_plans_over_forty_files(rt: HostRuntime) {
     assert!(rt; draws_forty_files(rt.alloc()));
+}
+
+#[test]
+fn gen_prints_the_same_at_each_run(rt: HostRuntime) {
+    assert!(rt; prints_twice(rt.alloc(), "gen|7|400", "check yes\n"));
 }
 
 #[test]

@@ -2,11 +2,13 @@ pub mod Acting
 pub mod Contents
 pub mod Counting
 pub mod Cursors
+pub mod Fitting
 pub mod Folding
 pub mod Keeping
 pub mod Lasting
 pub mod Lists
 pub mod Maps
+pub mod Merging
 pub mod NextSteps
 pub mod Remaining
 pub mod Searching

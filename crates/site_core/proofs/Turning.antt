@@ -126,7 +126,7 @@ module _ (a b : Shape) (names : List (List ℕ)) (keeps_a : KeepsShape a) (keeps
 
 -- A TURN
 
-moved_underway : (a b : Shape) (names : List (List ℕ)) → FitsMoved a b names → IsUnderway a b names
+pub moved_underway : (a b : Shape) (names : List (List ℕ)) → FitsMoved a b names → IsUnderway a b names
 moved_underway a b names fit =
     let named = λ (name : List ℕ) (held : HoldsFile b name). sym (fit.arrived name) ∙ held in
     record {

@@ -1,4 +1,5 @@
 pub mod Cursors
 pub mod Events
+pub mod Fitting
 pub mod Lasting
 pub mod Steps

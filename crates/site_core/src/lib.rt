@@ -3,7 +3,9 @@
 
 pub mod action;
 pub mod cursor;
+pub mod fit;
 pub mod laws;
+mod merged;
 pub mod next;
 mod search;
 pub mod state;
@@ -11,6 +13,7 @@ mod step;
 
 pub use action::Action;
 pub use cursor::Cursor;
+pub use fit::fits;
 pub use laws::{memory_laws, site_laws};
 pub use next::{next_action, next_from};
 pub use state::SiteState;
