@@ -47,6 +47,10 @@ each_at f (x ∷ xs) (suc j) d e inside = each_at f xs j d e (omega (arith, insi
 pub order_long : (es : Listed) (order : List ℕ) (m : Entries) → IsOrder es order → map_of es ≡ m → length order ≡ map.len m
 order_long es order m is view = sym (length-map order (name_at es)) ∙ ap length is.names ∙ count_keys (map_of es) ∙ ap map.len view
 
+-- a number that is read, at any default
+pub number_read : (order : List ℕ) (place number : ℕ) → place < length order → number ≡ get_or order place 0 → number ≡ get_or order place number
+number_read order place number inside at = at ∙ get_or_default order place 0 number inside
+
 pub number_inside : (es : Listed) (order : List ℕ) (place number : ℕ) → IsOrder es order → place < length order → number ≡ get_or order place number → number < length es
 number_inside es order place number is inside at = subst (λ (k : ℕ). k < length es) (sym (at ∙ get_or_default order place number 0 inside)) (All-get_or (λ k. k < length es) order place 0 inside is.within)
 

@@ -53,8 +53,8 @@ pub record KeepsTable (is_ordered : Bool) (entries : List (List ℕ × ChunkEntr
   pub ordered : is_ordered ≡ true → IsOrder entries order
 
 -- how many more entries have room: in the map, among the numbers in order, and among numbers of 32 bits
-abbrev pub table_room : ℕ → ℕ → ℕ → ℕ → ℕ
-table_room spare capacity ordered count = min (min spare (capacity - ordered)) (2 ^ 32 - count)
+abbrev pub table_room : ℕ → ℕ → ℕ → ℕ
+table_room spare ordered count = min (min spare ordered) (2 ^ 32 - count)
 
 -- the place of a name among names in order, or that at which it belongs
 pub record IsRank (names : List (List ℕ)) (name : List ℕ) (rank : ℕ) : Type 0 where

@@ -10,6 +10,7 @@ use seed_model::NoMemory;
 use std::alloc::Global;
 use std::cmp::Ordering;
 use std::marker::Model;
+use tiered_list::TieredList;
 
 // The most entries that numbers of 32 bits tell apart.
 const MOST_ENTRIES: usize = 4_294_967_296;
@@ -49,12 +50,12 @@ pub(crate) enum Change {
 #[derive(Drop)]
 pub(crate) struct ChunkTable {
     entries: IndexMap<[u8; 32], ChunkEntry>,
-    order: Vec<u32>,
+    order: TieredList,
     is_ordered: bool,
 }
 
 impl Model for ChunkTable {
-    ghost use Rattle.std.specs.Prelude.{length, vec_capacity};
+    ghost use Rattle.std.specs.Prelude.{length};
     ghost use Rattle.std.specs.FinMap as fin_map;
     ghost use Rattle.indexmap.specs.IndexMap.{spare};
     ghost use Rattle.volume_index.specs.ChunkTables.{ChunkTableValue, table_code, table_room, KeepsTable};
@@ -63,7 +64,7 @@ impl Model for ChunkTable {
 
     ghost coded = { table_code };
 
-    ghost view = { λ t. record { entries = fin_map.from_entries t.entries.entries; is_ordered = t.is_ordered; room = table_room (spare t.entries) (vec_capacity t.order) (length t.order.items) (length t.entries.entries) } };
+    ghost view = { λ t. record { entries = fin_map.from_entries t.entries.entries; is_ordered = t.is_ordered; room = table_room (spare t.entries) t.order.room (length t.entries.entries) } };
 
     ghost invariant = { λ t. KeepsTable t.is_ordered t.entries.entries t.order.items };
 }
@@ -76,7 +77,7 @@ impl ChunkTable {
     {
         ChunkTable {
             entries: IndexMap::new(alloc),
-            order: Vec::new(alloc),
+            order: TieredList::new(alloc),
             is_ordered: false,
         }
     }
@@ -109,7 +110,7 @@ impl ChunkTable {
         requires there { place < fin_map.len self.now.entries }
         ensures { slice_get (fin_map.keys self.now.entries) place ≡ Some result.now }
     {
-        let number = self.order[place] as usize;
+        let number = self.order.get(place) as usize;
         self.entries.get_index(number).unwrap().0
     }
 
@@ -194,7 +195,7 @@ impl ChunkTable {
     {
         let rank = self.rank(name);
         let number = self.entries.len() as u32;
-        self.order.insert(rank, number).unwrap();
+        self.order.insert(rank, number);
         let _ = self.entries.insert(*name, entry).unwrap();
     }
 
@@ -235,7 +236,7 @@ impl ChunkTable {
         let number = self.entries.get_index_of(name).unwrap();
         let last_name = *self.entries.get_index(self.entries.len() - 1).unwrap().0;
         let last = self.rank(&last_name);
-        self.order[last] = number as u32;
+        self.order.set(last, number as u32);
         let _ = self.order.remove(rank);
         let _ = self.entries.swap_remove_index(number).unwrap();
     }
@@ -245,7 +246,7 @@ impl ChunkTable {
         ensures entries { self.new.entries ≡ self.old.entries }
         ensures ordered { OnOk result (self.new.is_ordered ≡ true) }
     {
-        let mut order = Vec::new(*self.order.allocator());
+        let mut order = TieredList::new(self.order.allocator());
         for number in 0..self.entries.len() {
             order.push(number as u32)?;
         }
@@ -354,7 +355,7 @@ impl ChunkTable {
         requires there { place < fin_map.len self.now.entries }
         ensures { fin_map.get self.now.entries (slice_index_or (fin_map.keys self.now.entries) place []) ≡ Some result }
     {
-        let number = self.order[place] as usize;
+        let number = self.order.get(place) as usize;
         *self.entries.get_index(number).unwrap().1
     }
 

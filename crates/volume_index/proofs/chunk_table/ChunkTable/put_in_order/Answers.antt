@@ -17,7 +17,7 @@ returns-clause-entries c =
     let m = c.args.self.now.entries in
     let view = ap (λ (v : ChunkTableValue). v.entries) c.self.view_is in
     ap (λ (l : List (List ℕ × ChunkEntry)). map.from_entries {R = bytes_cmp} l)
-    ((rw c.unwrap-2.ensures at c.insert-2.ensures.entries) ∙ insert_entry-new (pointwise nat_eq) c.self.inside.entries c.args.name.now c.args.entry (lookup_lacks es m c.args.name.now view c.requires.lacking))
+    ((rw c.unwrap.ensures at c.insert-2.ensures.entries) ∙ insert_entry-new (pointwise nat_eq) c.self.inside.entries c.args.name.now c.args.entry (lookup_lacks es m c.args.name.now view c.requires.lacking))
     ∙ put_last_view es m c.args.name.now c.args.entry view c.requires.lacking
 
 pub invariant_of-self : goal.invariant_of-self
@@ -29,8 +29,8 @@ invariant_of-self c =
     let view = ap (λ (v : ChunkTableValue). v.entries) c.self.view_is in
     let more : List (List ℕ × ChunkEntry) = es ++ (name, c.args.entry) ∷ [] in
     let after : c.insert-2.new.self.entries ≡ more =
-    (rw c.unwrap-2.ensures at c.insert-2.ensures.entries) ∙ insert_entry-new (pointwise nat_eq) c.self.inside.entries name c.args.entry (lookup_lacks es m name view c.requires.lacking) in
-    let numbers : c.insert.new.self.items ≡ insert order c.rank-rank.result (length es) = (rw c.unwrap.ensures at c.insert.ensures.items) ∙ ap (λ (n : ℕ). insert order c.rank-rank.result n) c.len-number.ensures.len in
+    (rw c.unwrap.ensures at c.insert-2.ensures.entries) ∙ insert_entry-new (pointwise nat_eq) c.self.inside.entries name c.args.entry (lookup_lacks es m name view c.requires.lacking) in
+    let numbers : c.insert.new.self.items ≡ insert order c.rank-rank.result (length es) = c.insert.ensures.items ∙ ap (λ (n : ℕ). insert order c.rank-rank.result n) c.len-number.ensures.len in
     let is : IsOrder es order = c.self.invariant.ordered (ap (λ (v : ChunkTableValue). v.is_ordered) c.self.view_is ∙ c.requires.ordered) in
     let ranked : IsRank (map.keys (map.from_entries {R = bytes_cmp} es)) name c.rank-rank.result = subst (λ (n : Entries). IsRank (map.keys n) name c.rank-rank.result) (sym view) c.rank-rank.ensures in
     let lacking : map.contains_key (map.from_entries {R = bytes_cmp} es) name ≡ false = ap (λ (n : Entries). map.contains_key n name) view ∙ c.requires.lacking in

@@ -1,9 +1,8 @@
-use Rattle.std.proofs.Common.{ℕ, sym, ◌∙◌, ap, length}
+use Rattle.std.proofs.Common.{ℕ, sym, ◌∙◌, ap}
 use Rattle.std.specs.Prelude.{is_some}
 use Rattle.std.specs.Cmp.Lexicographic.{nat_list_eq_equiv}
 use Rattle.std.specs.FinMap as map
 use Rattle.indexmap.specs.IndexMap.{set_value_at, spare}
-use Rattle.std.specs.Vec.{vec_capacity}
 use Rattle.indexmap.specs.Layout.{length-set_value_at}
 use Rattle.indexmap.proofs.CallerLemmas.{updates-with_value_at, keys-with_value_at}
 use Rattle.std.proofs.lemmas.Option.{get_or_from_slice_get}
@@ -36,5 +35,5 @@ invariant_of-self c =
 
 pub returns-clause-room : goal.returns-clause-room
 returns-clause-room c =
-    ap (λ (n : ℕ). table_room (spare c.self.inside.entries) (vec_capacity c.self.inside.order) (length c.self.inside.order.items) n) (length-set_value_at c.self.inside.entries.entries c.unwrap-number.result c.args.entry)
+    ap (λ (n : ℕ). table_room (spare c.self.inside.entries) c.self.inside.order.room n) (length-set_value_at c.self.inside.entries.entries c.unwrap-number.result c.args.entry)
     ∙ ap (λ (v : ChunkTableValue). v.room) c.self.view_is

@@ -3,6 +3,7 @@ use Rattle.std.specs.Prelude.{is_some, slice_get}
 use Rattle.std.specs.List.{remove, swap_remove}
 use Rattle.std.specs.Map.Iter.{deref_pair}
 use Rattle.std.specs.FinMap as map
+use Rattle.std.proofs.lemmas.List.{length-set}
 use Rattle.std.proofs.lemmas.Option.{slice_get-get_or, get_or_from_slice_get}
 use Rattle.site_forms.specs.Volumes.{bytes_cmp}
 use Rattle.volume_index.specs.declared.chunk_table.ChunkEntry.{ChunkEntry}
@@ -19,8 +20,8 @@ unwrap-number-requires c =
     ∙ ap is_some (sym (get-lookup c.self.inside.entries.entries c.args.name.now) ∙ ap (λ (v : ChunkTableValue). map.get v.entries c.args.name.now) c.self.view_is)
     ∙ c.requires.held
 
-pub index_mut-requires : goal.index_mut-requires
-index_mut-requires c =
+pub set-requires : goal.set-requires
+set-requires c =
     let es = c.self.inside.entries.entries in
     let order = c.self.inside.order.items in
     let m = c.args.self.now.entries in
@@ -33,7 +34,7 @@ index_mut-requires c =
     let named : name_at es (length es - 1) ≡ pair.0.now = ap (λ (x : List ℕ × ChunkEntry). x.0) (get_or_from_slice_get es (length es - 1) (pair.0.now, pair.1.now) ([], new_entry 0 0) last) in
     let known = leaves_known es order m c.unwrap-number.result c.rank-rank.result c.rank-last.result c.args.name.now pair.0.now view is at.0 at.1 named c.rank-rank.ensures c.rank-last.ensures c.requires.held
     (entry_held es m (length es - 1) pair.0.now pair.1.now view last) in
-    omega (arith, known.last_inside, c.self.inside.order.ok.0)
+    known.last_inside
 
 pub remove-requires : goal.remove-requires
 remove-requires c =
@@ -49,7 +50,7 @@ remove-requires c =
     let named : name_at es (length es - 1) ≡ pair.0.now = ap (λ (x : List ℕ × ChunkEntry). x.0) (get_or_from_slice_get es (length es - 1) (pair.0.now, pair.1.now) ([], new_entry 0 0) last) in
     let known = leaves_known es order m c.unwrap-number.result c.rank-rank.result c.rank-last.result c.args.name.now pair.0.now view is at.0 at.1 named c.rank-rank.ensures c.rank-last.ensures c.requires.held
     (entry_held es m (length es - 1) pair.0.now pair.1.now view last) in
-    omega (arith, known.rank_inside, c.self.inside.order.ok.0)
+    omega (arith, known.rank_inside, ap length c.set.ensures.items, length-set order c.rank-last.result c.unwrap-number.result)
 
 pub unwrap-requires-2 : goal.unwrap-requires-2
 unwrap-requires-2 c =
@@ -89,7 +90,7 @@ invariant_of-self c =
     let left : map.from_entries {R = bytes_cmp} (swap_remove es number gone) ≡ map.remove m name = ap (λ (l : List (List ℕ × ChunkEntry)). map.from_entries {R = bytes_cmp} l) (sym after) ∙ returns-clause-entries c in
     let keys : map.keys (map.remove m name) ≡ remove (map.keys (map.from_entries {R = bytes_cmp} es)) rank = keys_without m name rank c.rank-rank.ensures c.requires.held ∙ ap (λ (n : Entries). remove (map.keys n) rank) (sym view) in
     let ordered : IsOrder (swap_remove es number gone) (remove (set order c.rank-last.result number) rank) = order_without es order number rank c.rank-last.result name pair.0.now gone known (map.remove m name) keys left in
-    let numbers : c.remove.new.self.items ≡ remove (set order c.rank-last.result number) rank = c.remove.ensures.items in
+    let numbers : c.remove.new.self.items ≡ remove (set order c.rank-last.result number) rank = c.remove.ensures.items ∙ ap (λ (l : List ℕ). remove l rank) c.set.ensures.items in
     record {
       few = omega (arith, c.self.invariant.few, c.swap_remove_index.ensures.len);
       ordered = λ _. subst (λ (l : List (List ℕ × ChunkEntry)). IsOrder l c.remove.new.self.items) (sym after) (subst (λ (o : List ℕ). IsOrder (swap_remove es number gone) o) (sym numbers) ordered);
