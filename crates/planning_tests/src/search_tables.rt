@@ -39,7 +39,7 @@ fn drawn_rows(alloc: Global, files: u32, state: &mut u64) -> Option<String> {
     }
     for chunk in 0..6u32 {
         let size = draw(state, 30);
-        let users = draw(state, 32) & (bit(files) - 1);
+        let users = draw(state, 32) & bit(files).wrapping_sub(1);
         put_users(alloc, chunk, size, users, &mut text)?;
     }
     Some(text)

@@ -35,8 +35,8 @@ const LACKING: &[u8] =
 // How many bytes each device has room for.
 const ROOM: usize = 200;
 
-// A rack with this log on its first device; none is want of memory.
-fn rack_of(alloc: Global, image: &[u8]) -> Option<MemRack> {
+/// A rack with this log on its first device; none is want of memory.
+pub(crate) fn rack_of(alloc: Global, image: &[u8]) -> Option<MemRack> {
     let mut rack = MemRack::new(alloc, ROOM, 40, 400, Vec::new(alloc))?;
     if ROOM < image.len() {
         return None;
@@ -45,8 +45,8 @@ fn rack_of(alloc: Global, image: &[u8]) -> Option<MemRack> {
     Some(rack)
 }
 
-// Such a rack, and its volume.
-fn volume_of(alloc: Global, image: &[u8]) -> Option<(MemRack, Volume)> {
+/// Such a rack, and its volume.
+pub(crate) fn volume_of(alloc: Global, image: &[u8]) -> Option<(MemRack, Volume)> {
     let mut rack = rack_of(alloc, image)?;
     let volume = open(alloc, &mut rack).ok()?;
     Some((rack, volume))
@@ -77,8 +77,8 @@ pub(crate) fn changed(alloc: Global) -> Option<MemRack> {
     rack_of(alloc, CHANGED)
 }
 
-// Whether the first device has this log.
-fn is_image(rack: &MemRack, image: &[u8]) -> bool {
+/// Whether the first device has this log.
+pub(crate) fn is_image(rack: &MemRack, image: &[u8]) -> bool {
     rack.image(0) == image
 }
 

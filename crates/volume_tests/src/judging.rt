@@ -1,5 +1,5 @@
 // What a volume says of bytes that changed below it.
-use crate::calls::{put_chunk, read_chunk, read_file};
+use crate::calls::{open, put_chunk, read_chunk, read_file};
 use crate::images::{ABC, BBC, changed, is_changed, small};
 use chunk_volume::{VolError, Volume};
 use std::alloc::Global;
@@ -65,6 +65,29 @@ fn refuses_n(alloc: Global) -> bool {
     refuses_file(&volume, &mut rack, "n")
 }
 
+/// The changed volume, as it is opened: a chunk's record folds whatever its bytes are.
+fn opened_changed(alloc: Global) -> Option<(MemRack, Volume)> {
+    let mut rack = changed(alloc)?;
+    let volume = open(alloc, &mut rack).ok()?;
+    Some((rack, volume))
+}
+
+/// Whether a put finds that other bytes were held from the beginning, and writes nothing.
+fn finds_others(alloc: Global) -> bool {
+    let Some((mut rack, mut volume)) = opened_changed(alloc) else {
+        return false;
+    };
+    writes_nothing(&mut volume, &mut rack, b"abc")
+}
+
+/// Whether the file of bytes that were others from the beginning is refused.
+fn refuses_others(alloc: Global) -> bool {
+    let Some((mut rack, volume)) = opened_changed(alloc) else {
+        return false;
+    };
+    refuses_file(&volume, &mut rack, "n")
+}
+
 /// Whether a put finds the changed chunk, and writes nothing.
 fn finds_changes(alloc: Global) -> bool {
     let Some((mut rack, mut volume)) = changed_small(alloc) else {
@@ -86,4 +109,10 @@ fn judges_files(rt: HostRuntime) {
 #[test]
 fn judges_what_it_holds(rt: HostRuntime) {
     assert!(rt; finds_changes(rt.alloc()));
+}
+
+#[test]
+fn judges_what_it_was_opened_with(rt: HostRuntime) {
+    assert!(rt; finds_others(rt.alloc()));
+    assert!(rt; refuses_others(rt.alloc()));
 }

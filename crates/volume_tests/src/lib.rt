@@ -17,3 +17,5 @@ mod indexes;
 mod judging;
 #[cfg(test)]
 mod opening;
+#[cfg(test)]
+mod tables;
