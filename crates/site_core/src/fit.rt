@@ -110,6 +110,30 @@ fn are_underway(a: &Holding, b: &Holding, whole: &Index, named: &Index, names: &
     are_chunks_used(a, whole)
 }
 
+// Whether files are on the way, forth or back, from both volumes and their files together.
+fn is_underway_over(
+    alloc: Global,
+    a: &Holding,
+    b: &Holding,
+    whole: &Index,
+    names: &Names,
+) -> Result<bool, NoMemory>
+    requires distinct { is_distinct names.now ≡ true }
+    requires merged { whole.now.shape.files ≡ joined_files a.now.shape.files b.now.shape.files }
+    requires keeps { counts_keep (joined_files a.now.shape.files b.now.shape.files) ≡ true }
+    ensures { IfOk result (λ is. (is ≡ true) ↔ IsUnderway a.now.shape b.now.shape names.now) }
+{
+    let _files = a.file_count();
+    let _others = b.file_count();
+    let mut named = Index::new(alloc);
+    add_chunks(&mut named, a)?;
+    add_chunks(&mut named, b)?;
+    if !add_named(alloc, &mut named, whole, names)? {
+        return Ok(false);
+    }
+    Ok(are_underway(a, b, whole, &named, names))
+}
+
 // Whether files are on the way, forth or back.
 fn is_underway(alloc: Global, a: &Holding, b: &Holding, names: &Names) -> Result<bool, NoMemory>
     requires { is_distinct names.now ≡ true }
@@ -122,13 +146,7 @@ fn is_underway(alloc: Global, a: &Holding, b: &Holding, names: &Names) -> Result
         return Ok(false);
     }
     let _whole = whole.file_count();
-    let mut named = Index::new(alloc);
-    add_chunks(&mut named, a)?;
-    add_chunks(&mut named, b)?;
-    if !add_named(alloc, &mut named, &whole, names)? {
-        return Ok(false);
-    }
-    Ok(are_underway(a, b, &whole, &named, names))
+    is_underway_over(alloc, a, b, &whole, names)
 }
 
 // Whether files move from A to B.
