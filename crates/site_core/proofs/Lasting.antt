@@ -36,7 +36,7 @@ use Rattle.site_core.proofs.Maps.{either, get_joined, used_by}
 use Rattle.site_core.proofs.NextSteps.{Tells, tells, Ends}
 use Rattle.site_core.proofs.Remaining.{held_kept}
 use Rattle.site_core.proofs.Shapes.{same_held}
-use Rattle.site_core.proofs.Values.{Happened, happened, state_acted, site_stays}
+use Rattle.site_core.proofs.Values.{Happened, happened, state_acted, site_stays, HasValues, values_stay}
 use Rattle.site_core.proofs.Views.{append_view, action_origin, turn_origin}
 use Rattle.site_core.proofs.Ways.{way_from, among_a}
 
@@ -266,3 +266,21 @@ pub leaves_one : (t : Shapes) (action : Action) (bytes : List ℕ) → IsKept t 
 leaves_one t action bytes kept is copies =
     let acted = next_acted t.a t.b t.phase bytes action kept is copies in
     record { next = acted.next; folds = acted.folds; kept = acted.kept; left = acted.left }
+
+-- THE VALUES OF CHUNKS
+
+event_values : (f : List ℕ → List ℕ) (s : State) (e : Event) → IsFoldedSite s → s.phase ≢ Idle → Allowed s e → HasValues f s → HasValues f (after s e)
+event_values f s (Appends x) is busy may all = values_stay f s x (after s (Appends x)) (folded_kept s is) busy all may (append_folds s x is may)
+event_values f s (Reads name) is busy may all = all
+event_values f s Reopens is busy may all = all
+
+pub all_values : (f : List ℕ → List ℕ) (s : State) (events : List Event) → IsFoldedSite s → AreAllowed s events → StaysOpen s events → HasValues f s → HasValues f (after_all s events)
+all_values f s [] is allowed stays all = all
+all_values f s (e ∷ events) is allowed stays all = all_values f (after s e) events (event_keeps s e is allowed.0) allowed.1 stays.1 (event_values f s e is stays.0 allowed.0 all)
+
+-- THE VIEW OVER A RUN, while a migration is open
+
+pub all_views : (s : State) (events : List Event) (name : List ℕ) → IsFoldedSite s → AreAllowed s events → StaysOpen s events → ((t : State) (e : Event) → t.phase ≢ Idle → view_after t e name ≡ view t name) → view (after_all s events) name ≡ view s name
+all_views s [] name is allowed stays busy = refl
+all_views s (e ∷ events) name is allowed stays busy =
+    all_views (after s e) events name (event_keeps s e is allowed.0) allowed.1 stays.1 busy ∙ event_view s e name is allowed.0 ∙ busy s e stays.0

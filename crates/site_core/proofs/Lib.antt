@@ -15,5 +15,6 @@ pub mod Searching
 pub mod Shapes
 pub mod Turning
 pub mod Values
+pub mod PlanRuns
 pub mod Views
 pub mod Ways

@@ -318,3 +318,16 @@ site_stays s x next is may folds keeps =
       folds = folded_more s x next is.folds (spelled s x kept may) folds;
       site = record { fits = keeps.fits; named_a = named.0; named_b = named.1; agree = agrees s x next kept is.site may folds };
     }
+
+-- VALUES OVER A RUN
+
+abbrev pub HasValues : (List ℕ → List ℕ) → State → Type 0
+HasValues f s = EachChunk (HasValue f) s.a × EachChunk (HasValue f) s.b
+
+pub values_stay : (f : List ℕ → List ℕ) (s : State) (x : Append) (next : State) → IsKept (shapes_of s) → s.phase ≢ Idle → HasValues f s → MayAppend s x → happens s x ≡ Some next → HasValues f next
+values_stay f s x next kept busy all may folds = state_chunks (HasValue f) s x next all.0 all.1 (new may) folds
+  where
+    new : MayAppend s x → IsNew (HasValue f) x
+    new (inl action) = subst (IsNew (HasValue f)) (sym action.appends) (new_of_action (HasValue f) s action.action kept action.is all.0 all.1)
+    new (inr (inl idle)) = absurd (busy idle.idle)
+    new (inr (inr mark)) = new_turn (HasValue f) x mark.turn

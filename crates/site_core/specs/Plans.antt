@@ -1,0 +1,25 @@
+-- Plans of appends, and what images say after a part of one.
+use Rattle.std.specs.Prelude.{◌≡◌, ℕ, List, [], ◌∷◌, ◌++◌, map as each, Some}
+use Rattle.volume_disk.specs.Disk.{Images}
+use Rattle.site_forms.specs.Sites.{state_of}
+use Rattle.site_forms.specs.Views.{State}
+use Rattle.site_core.specs.Events.{Append, Event, IsNextAppend, after, after_all}
+use Rattle.site_core.specs.Events.Event.{Appends}
+
+abbrev pub events_of : List Append → List Event
+events_of plan = each Appends plan
+
+abbrev pub after_plan : State → List Append → State
+after_plan s plan = after_all s (events_of plan)
+
+abbrev pub IsFrontOf : List Append → List Append → Type 0
+IsFrontOf whole plan = (rest : List Append) × (plan ++ rest ≡ whole)
+
+abbrev pub AreActions : State → List Append → Type 0
+AreActions s [] = Unit {0}
+AreActions s (x ∷ plan) = IsNextAppend s x × AreActions (after s (Appends x)) plan
+
+pub record Led (Q : List Append → Type 0) (s : State) (c : Images) : Type 0 where
+  pub plan : List Append
+  pub within : Q plan
+  pub now : state_of c ≡ Some (after_plan s plan)
