@@ -163,6 +163,13 @@ impl Log {
         self.device
     }
 
+    /// Whether a call of the rack failed in an append of this log: it is to be opened again.
+    pub fn is_spent(&self) -> bool
+        ensures { result ≡ self.now.spent }
+    {
+        self.spent
+    }
+
     /// The place of the body behind a gate; none at the end of the log. Makes one call of the rack at most.
     pub fn walk<R: Rack>(&self, rack: &mut R, at: u64) -> Result<Option<Place>, LogError>
         requires { at ≤ self.now.end }
