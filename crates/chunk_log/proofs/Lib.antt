@@ -10,6 +10,7 @@ pub mod NewRecords
 pub mod Opened
 pub mod PlaceHalves
 pub mod Reaching
+pub mod Resting
 pub mod Shutting
 pub mod Standing
 pub mod Walked

@@ -1,6 +1,6 @@
 -- Devices whose first gate is closed, whatever a crash leaves.
-use Rattle.std.proofs.Common.{◌≡◌, ◌≢◌, ◌⊎◌, inl, inr, ⊎_elim, ℕ, suc, ◌<◌, ◌≤◌, List, [], ◌∷◌, length, take, drop, false, refl, sym, ◌∙◌, ap, subst, arith, get_or-take}
-use Rattle.std.specs.Prelude.{slice_index, nat_le, Result, Ok, Err}
+use Rattle.std.proofs.Common.{◌≡◌, ◌≢◌, ◌⊎◌, inl, inr, ⊎_elim, ℕ, suc, ◌<◌, ◌≤◌, List, [], ◌∷◌, length, take, drop, Bool, false, refl, sym, ◌∙◌, ap, subst, arith, get_or-take, eq-eqb, ne_eqb}
+use Rattle.std.specs.Prelude.{slice_index, nat_le, Result, Ok, Err, if◌then◌else◌}
 use Rattle.std.proofs.lemmas.Bool.{or_from, lt-leb, cases_eq}
 use Rattle.std.proofs.lemmas.List.{length-take}
 use Rattle.volume_disk.specs.Medium.{Medium, Touch, MayLeave, IsAtRest, at_rest, is_touched, flushed, wrote, FailedWrite, trimmed, FailedCut, range_start, with_gap, written, touch_of_write}
@@ -9,11 +9,11 @@ use Rattle.volume_disk.specs.Disk.{Disk, Images, Crash, SameElsewhere, Gives, Wr
 use Rattle.volume_disk.specs.Edited.{length-written}
 use Rattle.volume_disk.specs.Left.{OneWriteAt}
 use Rattle.volume_disk.proofs.Ranges.{neither}
-use Rattle.volume_disk.proofs.Within.{drop_written}
+use Rattle.volume_disk.proofs.Within.{drop_written, written_within}
 use Rattle.volume_disk.proofs.Rest.{crash_at_rest}
 use Rattle.volume_disk.proofs.Apart.{put_elsewhere, crash_elsewhere}
 use Rattle.site_forms.specs.Halves.{IsClosed}
-use Rattle.chunk_log.specs.Shutting.{IsShut, IsGuarded, IsBlankAtRest, SameOrShut}
+use Rattle.chunk_log.specs.Shutting.{IsShut, IsGuarded, IsBlankAtRest, SameOrShut, closed_front}
 
 -- a crash leaves the first gate closed
 pub shut_left : (m : Medium) (y : List ℕ) → IsShut m → MayLeave m y → IsClosed y
@@ -118,6 +118,15 @@ gate_shuts device image d b c is_device rest some is_open crash one =
 -- the image of it
 pub gate_written : (image : List ℕ) → 1 ≤ length image → (1 ≤ length (written image 0 (0 ∷ []))) × (slice_index (written image 0 (0 ∷ [])) 0 ≢ 1)
 gate_written image some = (omega (arith, some, length-written image 0 (0 ∷ [])), λ is_open. absurd (omega (arith, is_open, ap (λ (l : List ℕ). slice_index l 0) (drop_written image 0 (0 ∷ []) (omega arith)))))
+
+-- the first byte that is left, of a gate that was open, and of one that was not
+pub gate_closed : (image : List ℕ) → slice_index image 0 ≡ 1 → take 1 (written image 0 (0 ∷ [])) ≡ closed_front image
+gate_closed image is_open =
+    ap (take 1) (written_within image 0 (0 ∷ []) (omega arith)) ∙ sym (ap (λ (b : Bool). (if b then 0 else slice_index image 0) ∷ []) (eq-eqb (slice_index image 0) 1 is_open))
+
+pub gate_stays : (image : List ℕ) → 1 ≤ length image → slice_index image 0 ≢ 1 → take 1 image ≡ closed_front image
+gate_stays [] some closed = absurd (omega (arith, some))
+gate_stays (gate ∷ rest) some closed = sym (ap (λ (b : Bool). (if b then 0 else gate) ∷ []) (ne_eqb gate 1 closed))
 
 -- the first gate, as it is read
 pub read_gate : (image into : List ℕ) (n : ℕ) → Gives image 0 into n → 1 ≤ length into → 1 ≤ length image → slice_index into 0 ≡ slice_index image 0

@@ -1,5 +1,5 @@
 -- Writing a half anew, and what finishing it brings into force.
-use Rattle.std.specs.Prelude.{◌≡◌, ◌≢◌, ◌⊎◌, ℕ, ◌+◌, ◌^◌, ◌<◌, ◌≤◌, false, true, List, [], ◌∷◌, ◌++◌, drop, All, Some, Result, Ok, Err, OnOk, IfOk, unwrap_or}
+use Rattle.std.specs.Prelude.{◌≡◌, ◌≢◌, ◌⊎◌, ℕ, ◌+◌, ◌^◌, ◌<◌, ◌≤◌, false, true, List, [], ◌∷◌, ◌++◌, length, drop, All, Some, Result, Ok, Err, OnOk, IfOk, unwrap_or}
 use Rattle.volume_disk.specs.Medium.{Medium, at_rest}
 use Rattle.volume_disk.specs.Disk.{Disk, Images, Crash, SameElsewhere}
 use Rattle.volume_disk.specs.Time.{Passes}
@@ -12,7 +12,7 @@ use Rattle.chunk_log.specs.declared.errors.AppendError.TheVariants.{RackFault, D
 use Rattle.chunk_log.specs.Appending.{after_append, after_fault, IsFull}
 use Rattle.chunk_log.specs.LogValues.{LogValue}
 use Rattle.chunk_log.specs.Retiring.{IsBeside}
-use Rattle.chunk_log.specs.Shutting.{IsShut, IsGuarded, IsBlankAtRest, SameOrShut}
+use Rattle.chunk_log.specs.Shutting.{IsShut, IsGuarded, IsBlankAtRest, SameOrShut, closed_front}
 use Rattle.chunk_log.specs.Standing.{LogStands}
 
 -- the blocks of bodies behind a first gate that is closed
@@ -103,13 +103,15 @@ pub record FinishesHalf {D E : Type 0} (disk : D → Disk) (moment : D → ℕ) 
 
 -- a half is finished beside the one in force on the old device, whose generation is lower, and that one is retired: no
 -- device of another place changes; once done the new log stands for the place with the records that were written, the
--- device is at rest with their blocks and a closed gate, and the old one is blank; and a crash at any moment leaves at
--- this place the same records, or all of those, and at the others the same
+-- device is at rest with their blocks and a closed gate, and the old one is blank, with its first byte alone, a closed gate
+-- where an open one was there; and a crash at any moment leaves at this place the same records, or all of those, and at
+-- the others the same
 pub record SwitchesHalves {D E : Type 0} (moment : D → ℕ) (left_since : D → ℕ → Images → Type 0) (before after : D) (d e : Disk) (writer : LogValue) (old : ℕ) (result : Result LogValue E) : Type 0 where
   pub others : (other : ℕ) → other ≢ writer.device → other ≢ old → e other ≡ d other
   pub image : (bodies : List (List ℕ)) → IsBeside writer.device old → IsWriting writer bodies (d writer.device) → OnOk result (e writer.device ≡ at_rest (blocks bodies ++ 0 ∷ []))
   pub stands : (place number : ℕ) (records live : List (List ℕ)) (log : LogValue) → IsBeside writer.device log.device → old ≡ log.device → LogStands place records log d
       → IsWriting writer (half_record number ∷ live) (d writer.device) → IsStronger number log d → IfOk result (λ now. LogStands place live now e)
+  pub retired : IsBeside writer.device old → 2 ≤ length (d old).image → OnOk result (e old ≡ at_rest (closed_front (d old).image))
   pub blank : (place number : ℕ) (records live : List (List ℕ)) (log : LogValue) → IsBeside writer.device log.device → old ≡ log.device → LogStands place records log d
       → IsWriting writer (half_record number ∷ live) (d writer.device) → IsStronger number log d → OnOk result (IsBlankAtRest (e old))
   pub moments : (place number : ℕ) (records live : List (List ℕ)) (log : LogValue) → IsBeside writer.device log.device → old ≡ log.device → LogStands place records log d

@@ -1,6 +1,6 @@
 -- Which half of a place is in force, and opening a place.
 use Rattle.std.specs.Prelude.{◌≡◌, ◌≢◌, ◌⊎◌, ℕ, ◌+◌, nat_lt, false, List, Option, Some, None, Result, Ok, Err, OnOk, IfOk, unwrap_or, if◌then◌else◌}
-use Rattle.volume_disk.specs.Medium.{at_rest}
+use Rattle.volume_disk.specs.Medium.{IsAtRest, at_rest}
 use Rattle.volume_disk.specs.Disk.{Disk, Images, Crash}
 use Rattle.volume_disk.specs.Time.{Passes}
 use Rattle.site_forms.specs.Logs.{parse}
@@ -23,6 +23,10 @@ chosen first (Some n) (Some m) = if nat_lt n m then Ok (first + 3, m) else (if n
 -- no device but the two halves of a place has changed
 abbrev pub SameOutside : ℕ → Disk → Disk → Type 0
 SameOutside place d e = (other : ℕ) → other ≢ place → other ≢ place + 3 → e other ≡ d other
+
+-- nothing is pending at the two halves of a place
+abbrev pub RestsAt : ℕ → Disk → Type 0
+RestsAt place d = IsAtRest (d place) × IsAtRest (d (place + 3))
 
 -- what each device reads
 abbrev pub images_of : Disk → Images
@@ -126,8 +130,10 @@ IsHalfOf d e place (Ok log) = IsHalfLog d e place log
 IsHalfOf d e place (Err (Damage device at)) = (records_at (images_of d) place ≡ None) × IsDamaged (d place).image (d (place + 3)).image place device at
 IsHalfOf d e place (Err RackFault) = Unit {0}
 
--- opening a place: a crash at any moment leaves the same records at every place
+-- opening a place: no other device changes; once it is open nothing is pending at its two halves; and a crash at any moment
+-- leaves the same records at every place
 pub record OpensPlace {D : Type 0} (moment : D → ℕ) (left_since : D → ℕ → Images → Type 0) (old new : D) (d e : Disk) (place : ℕ) (result : Result LogValue LogError) : Type 0 where
   pub others : SameOutside place d e
   pub log : IsPlaceLog d e place result
+  pub rest : OnOk result (RestsAt place e)
   pub moments : Passes moment left_since old new (λ c. (b : Images) × Crash d b × SameRecords b c)

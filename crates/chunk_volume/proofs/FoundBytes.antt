@@ -91,9 +91,9 @@ read_refused v name piece Memory held = tt
 never_same : (b : Bool) → b ≡ false → b ≡ true → ⊥
 never_same b off on = true≢false (sym on ∙ off)
 
-pub held_found : (at len : ℕ) (name others : List ℕ) (d : Disk) (v : VolumeValue) (volume : Volume) (c : Compared) (result : Result Bool VolError) → Stored d v volume name at len → c.found ≡ sha256 (bytes_at (d v.log.device).image at len)
+pub held_found : (at len : ℕ) (name others : List ℕ) (d : Disk) (v : VolumeValue) (volume : Volume) (c : Compared) (result : Result (Unit {0}) VolError) → Stored d v volume name at len → c.found ≡ sha256 (bytes_at (d v.log.device).image at len)
     → (c.is_same ≡ true) ↔ (others ≡ bytes_at (d v.log.device).image at len) → JudgesHeld name c result → FindsHeld volume name others result
-held_found at len name others d v volume c (Ok added) has digest same judges = has.held ∙ ap Some (sym has.same ∙ sym (same.0 judges.1))
+held_found at len name others d v volume c (Ok done) has digest same judges = has.held ∙ ap Some (sym has.same ∙ sym (same.0 judges))
 held_found at len name others d v volume c (Err (BadChunk chunk found)) has digest same judges = (has.bytes, has.held, ap sha256 (sym has.same) ∙ sym digest ∙ sym judges.1)
 held_found at len name others d v volume c (Err (Collision chunk)) has digest same judges =
     (has.bytes, has.held, ap sha256 (sym has.same) ∙ sym digest ∙ judges.1, λ is. never_same c.is_same judges.2 (same.1 (sym is ∙ sym has.same)))

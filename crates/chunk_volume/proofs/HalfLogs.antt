@@ -1,6 +1,6 @@
 -- The log of a half that is opened, and the volume of its records.
 use Rattle.std.proofs.Common.{◌≡◌, inl, inr, ℕ, suc, ◌+◌, ◌<◌, List, [], ◌∷◌, ◌++◌, length, take, drop, Bool, true, false, Option, Some, None, Ok, Err, refl, sym, ◌∙◌, ap, subst, arith}
-use Rattle.std.specs.Prelude.{nat_le, if◌then◌else◌}
+use Rattle.std.specs.Prelude.{nat_le, if◌then◌else◌, Result, OnOk, IsErrAnd}
 use Rattle.std.specs.Option.{option_and_then}
 use Rattle.std.proofs.lemmas.List.{take-append-drop}
 use Rattle.volume_disk.specs.Disk.{Disk, SameDisk}
@@ -9,7 +9,7 @@ use Rattle.site_forms.specs.Volumes.{Volume, volume_of, volume_step, empty_volum
 use Rattle.chunk_log.specs.declared.errors.LogError.{LogError}
 use Rattle.chunk_log.specs.declared.errors.LogError.TheVariants.{RackFault as LogFault, Damage as LogDamage}
 use Rattle.chunk_log.specs.LogValues.{LogValue}
-use Rattle.chunk_log.specs.PlaceHalves.{images_of, IsHalfLog, IsHalfOf, IsOfPlace, AnswersPlace}
+use Rattle.chunk_log.specs.PlaceHalves.{RestsAt, images_of, IsHalfLog, IsHalfOf, IsOfPlace, AnswersPlace}
 use Rattle.chunk_log.specs.Standing.{LogStands}
 use Rattle.chunk_log.proofs.PlaceHalves.{place_told}
 use Rattle.chunk_volume.specs.declared.errors.VolError.{VolError}
@@ -97,3 +97,8 @@ walk_answered place limit log Exists of answers = answers
 walk_answered place limit log NoSuchFile of answers = answers
 walk_answered place limit log (DeviceFull device at len) of answers = answers
 walk_answered place limit log Spent of answers = answers
+
+-- an error that is handed on
+pub rests_handed : (place : ℕ) (e : Disk) (result : Result VolumeValue VolError) (error : VolError) → IsErrAnd result (λ other. other ≡ error) → OnOk result (RestsAt place e)
+rests_handed place e (Ok volume) error handed = absurd handed
+rests_handed place e (Err other) error handed = tt

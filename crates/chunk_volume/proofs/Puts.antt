@@ -5,16 +5,17 @@ use Rattle.std.specs.FinMap as map
 use Rattle.std.proofs.lemmas.Bool.{true≢false, false_from_ne_true, and_from, le-leb}
 use Rattle.std.proofs.lemmas.Option.{slice_get_within}
 use Rattle.file_names.specs.FileNames.{IsFileName}
-use Rattle.volume_disk.specs.Disk.{Disk, Images}
+use Rattle.volume_disk.specs.Disk.{Disk, Images, Crash}
 use Rattle.site_forms.specs.Names.{is_name}
 use Rattle.site_forms.specs.Sites.{HoldsChunk, HoldsFile}
 use Rattle.site_forms.specs.VolumeRecords.{VolumeRecord}
-use Rattle.site_forms.specs.Volumes.{Files, Shape, chunk_or, holds_all, keeps_limits, may_add_file, may_drop_chunk, shape_after, with_file, without_file, without_chunk, with_chunk}
+use Rattle.site_forms.specs.Volumes.{Files, Volume, Shape, chunk_or, holds_all, keeps_limits, may_add_file, may_drop_chunk, shape_after, with_file, without_file, without_chunk, with_chunk}
 use Rattle.site_forms.specs.VolumeRecords.VolumeRecord.{ChunkRecord, FileRecord, DropFileRecord, DropChunkRecord}
 use Rattle.site_forms.proofs.NameTests.{name_test}
+use Rattle.device_pieces.proofs.Quiets.{quiet_begins}
 use Rattle.chunk_volume.specs.declared.errors.VolError.{VolError}
 use Rattle.chunk_volume.specs.declared.errors.VolError.TheVariants.{RackFault, Damage, BadChunk, Collision, Exists, NoSuchFile, DeviceFull, Spent, Memory}
-use Rattle.chunk_volume.specs.Adding.{IsSame, IsRefused, Adds, Compares, PutsChunk, PutsFile, DropsFile, DropsChunk, PutsChunkOn}
+use Rattle.chunk_volume.specs.Adding.{IsSame, IsRefused, Adds, Compares, ComparesChunk, FindsHeld, PutsChunk, PutsFile, DropsFile, DropsChunk, PutsChunkOn}
 use Rattle.chunk_volume.specs.VolumeValues.{VolumeValue}
 use Rattle.volume_index.proofs.Ranks.{count_keys}
 
@@ -51,35 +52,67 @@ drops_file_spent v name spent = record { spent = λ _. (refl, refl); held = λ f
 pub drops_chunk_spent : (v : VolumeValue) (name : List ℕ) → v.log.spent ≡ true → DropsChunk v v name (Err Spent)
 drops_chunk_spent v name spent = record { spent = λ _. (refl, refl); held = λ fresh. never v spent fresh }
 
-pub puts_spent : {D : Type 0} (moment : D → ℕ) (left_since : D → ℕ → Images → Type 0) (old : D) (d : Disk) (v : VolumeValue) (name bytes : List ℕ) → v.log.spent ≡ true → PutsChunkOn moment left_since old old d d v v name bytes (Err Spent)
-puts_spent moment left_since old d v name bytes spent = record {
+pub puts_spent : {D : Type 0} (moment : D → ℕ) (left_since : D → ℕ → Images → Type 0) (old : D) (d : Disk) (v : VolumeValue) (name bytes : List ℕ) → ((c : Images) → left_since old (moment old) c → Crash d c) → v.log.spent ≡ true
+    → PutsChunkOn moment left_since old old d d v v name bytes (Err Spent)
+puts_spent moment left_since old d v name bytes only_now spent = record {
   others = λ other out. refl;
+  quiet = λ held. quiet_begins moment left_since old d only_now;
   added = λ place volume stands _. tt;
   held = λ place volume stands _ fresh. never v spent fresh;
   kept = λ place volume stands _. stands;
-  moments = λ place volume stands. never v spent stands.log.fresh;
+  alone = λ _ _. refl;
+  moments = λ place volume stands _. never v spent stands.log.fresh;
 }
 
 -- A CHUNK THAT IS HELD
 
-pub compared_same : (v w : VolumeValue) (name bytes : List ℕ) (result : Result Bool VolError) → Compares v w name bytes result → IsRefused result → w ≡ v
-compared_same v w name bytes (Ok added) compares refused = absurd refused
-compared_same v w name bytes (Err RackFault) compares refused = absurd refused
-compared_same v w name bytes (Err (Damage device at)) compares refused = compares.2
-compared_same v w name bytes (Err (BadChunk chunk found)) compares refused = compares.2
-compared_same v w name bytes (Err (Collision chunk)) compares refused = compares.1
-compared_same v w name bytes (Err Exists) compares refused = absurd compares
-compared_same v w name bytes (Err NoSuchFile) compares refused = absurd compares
-compared_same v w name bytes (Err (DeviceFull device at len)) compares refused = absurd compares
-compared_same v w name bytes (Err Spent) compares refused = absurd compares
-compared_same v w name bytes (Err Memory) compares refused = absurd compares
+pub compared_same : (error : VolError) (v w : VolumeValue) (name bytes : List ℕ) → Compares {T = Unit {0}} v w name bytes (Err error) → IsRefused {T = Unit {0}} (Err error) → w ≡ v
+compared_same RackFault v w name bytes compares refused = absurd refused
+compared_same (Damage device at) v w name bytes compares refused = compares.2
+compared_same (BadChunk chunk found) v w name bytes compares refused = compares.2
+compared_same (Collision chunk) v w name bytes compares refused = compares.1
+compared_same Exists v w name bytes compares refused = absurd compares
+compared_same NoSuchFile v w name bytes compares refused = absurd compares
+compared_same (DeviceFull device at len) v w name bytes compares refused = absurd compares
+compared_same Spent v w name bytes compares refused = absurd compares
+compared_same Memory v w name bytes compares refused = absurd compares
 
-pub compared_ok : (v w : VolumeValue) (name bytes : List ℕ) (result : Result Bool VolError) → Compares v w name bytes result → (added : Bool) → result ≡ Ok added → w ≡ v
-compared_ok v w name bytes (Ok is) compares added same = compares.2
-compared_ok v w name bytes (Err error) compares added same = cc
+-- a refusal is one whatever would have been answered
+compares_any : (S T : Type 0) (v w : VolumeValue) (name bytes : List ℕ) (error : VolError) → Compares {T = S} v w name bytes (Err error) → Compares {T = T} v w name bytes (Err error)
+compares_any S T v w name bytes RackFault compares = compares
+compares_any S T v w name bytes (Damage device at) compares = compares
+compares_any S T v w name bytes (BadChunk chunk found) compares = compares
+compares_any S T v w name bytes (Collision chunk) compares = compares
+compares_any S T v w name bytes Exists compares = compares
+compares_any S T v w name bytes NoSuchFile compares = compares
+compares_any S T v w name bytes (DeviceFull device at len) compares = compares
+compares_any S T v w name bytes Spent compares = compares
+compares_any S T v w name bytes Memory compares = compares
 
-pub puts_held : (v w : VolumeValue) (name bytes : List ℕ) (result : Result Bool VolError) → v.log.spent ≡ false → HoldsChunk v.shape name → Compares v w name bytes result → PutsChunk v w name bytes result
-puts_held v w name bytes result fresh held compares = record { spent = λ spent. never v spent fresh; held = λ _ _. compares; lacking = λ _ lacking. absurd (lacking held) }
+pub finds_any : (S T : Type 0) (volume : Volume) (name bytes : List ℕ) (error : VolError) → FindsHeld {T = S} volume name bytes (Err error) → FindsHeld {T = T} volume name bytes (Err error)
+finds_any S T volume name bytes RackFault finds = finds
+finds_any S T volume name bytes (Damage device at) finds = finds
+finds_any S T volume name bytes (BadChunk chunk found) finds = finds
+finds_any S T volume name bytes (Collision chunk) finds = finds
+finds_any S T volume name bytes Exists finds = finds
+finds_any S T volume name bytes NoSuchFile finds = finds
+finds_any S T volume name bytes (DeviceFull device at len) finds = finds
+finds_any S T volume name bytes Spent finds = finds
+finds_any S T volume name bytes Memory finds = finds
+
+pub puts_held : (v w : VolumeValue) (name bytes : List ℕ) → v.log.spent ≡ false → HoldsChunk v.shape name → Compares {T = Unit {0}} v w name bytes (Ok tt) → PutsChunk v w name bytes (Ok false)
+puts_held v w name bytes fresh held compares = record { spent = λ spent. never v spent fresh; held = λ _ _. (compares, refl); lacking = λ _ lacking. absurd (lacking held) }
+
+pub puts_not_held : (v w : VolumeValue) (name bytes : List ℕ) (error : VolError) → v.log.spent ≡ false → HoldsChunk v.shape name → Compares {T = Unit {0}} v w name bytes (Err error) → PutsChunk v w name bytes (Err error)
+puts_not_held v w name bytes error fresh held compares =
+    record { spent = λ spent. never v spent fresh; held = λ _ _. (compares_any (Unit {0}) Bool v w name bytes error compares, tt); lacking = λ _ lacking. absurd (lacking held) }
+
+-- a comparison by itself
+pub compares_spent : (v : VolumeValue) (name bytes : List ℕ) → v.log.spent ≡ true → ComparesChunk v v name bytes (Err Spent)
+compares_spent v name bytes spent = record { spent = λ _. (refl, refl); fresh = λ fresh. never v spent fresh }
+
+pub compares_fresh : (v w : VolumeValue) (name bytes : List ℕ) (result : Result (Unit {0}) VolError) → v.log.spent ≡ false → Compares v w name bytes result → ComparesChunk v w name bytes result
+compares_fresh v w name bytes result fresh compares = record { spent = λ spent. never v spent fresh; fresh = λ _. compares }
 
 -- A CHUNK THAT IS LACKING
 

@@ -1,10 +1,10 @@
 -- Volumes that stand for places.
-use Rattle.std.proofs.Common.{◌≡◌, ◌≢◌, ℕ, ◌+◌, ◌≤◌, ◌<◌, List, [], ◌∷◌, ◌++◌, length, Bool, true, false, Some, refl, sym, ◌∙◌, ap, subst, arith}
+use Rattle.std.proofs.Common.{◌≡◌, ◌≢◌, ◌⊎◌, inl, inr, ⊎_elim, ℕ, ◌+◌, ◌≤◌, ◌<◌, List, [], ◌∷◌, ◌++◌, length, Bool, true, false, Some, refl, sym, ◌∙◌, ap, subst, arith}
 use Rattle.std.specs.Prelude.{◌==◌, ◌&&◌, if◌then◌else◌}
 use Rattle.std.specs.Option.{option_and_then, option_map}
-use Rattle.volume_disk.specs.Medium.{Medium, at_rest}
+use Rattle.volume_disk.specs.Medium.{Medium, IsAtRest, at_rest}
 use Rattle.volume_disk.specs.Disk.{Disk, Images, Crash, SameElsewhere}
-use Rattle.site_forms.specs.Halves.{Half, device, half_number}
+use Rattle.site_forms.specs.Halves.{Half, device, half_number, OneMoreAt}
 use Rattle.site_forms.specs.Halves.Half.{First, Second}
 use Rattle.site_forms.specs.Sites.{shape_of, volume_at}
 use Rattle.site_forms.specs.VolumeRecords.{VolumeRecord, IsVolumeRecord, volume_body}
@@ -21,6 +21,7 @@ use Rattle.chunk_log.proofs.Appended.{log_settled}
 use Rattle.chunk_log.proofs.Appends.{stands_beside}
 use Rattle.chunk_log.proofs.Beside.{apart_from}
 use Rattle.chunk_log.proofs.HalfFound.{stands_outside}
+use Rattle.chunk_log.proofs.Resting.{log_rests, stands_steps}
 use Rattle.chunk_volume.specs.Adding.{IsAdded, places_after}
 use Rattle.chunk_volume.specs.Standing.{Keeps, VolumeStands}
 use Rattle.chunk_volume.specs.VolumeValues.{VolumeValue}
@@ -31,6 +32,10 @@ use Rattle.chunk_volume.proofs.Shapes.{shape_step}
 -- whatever a crash leaves of the place, it says this volume
 pub volume_settled : (place : ℕ) (v : VolumeValue) (volume : Volume) (d : Disk) (c : Images) → VolumeStands place v d volume → Crash d c → volume_at c place ≡ Some volume
 volume_settled place v volume d c stands crash = ap (option_and_then volume_of) (log_settled place stands.records v.log d c stands.log crash) ∙ stands.folds
+
+-- nothing is pending on the device of its log
+pub volume_rests : (place : ℕ) (v : VolumeValue) (volume : Volume) (d : Disk) → VolumeStands place v d volume → IsAtRest (d v.log.device)
+volume_rests place v volume d stands = log_rests place stands.records v.log d stands.log
 
 -- A VOLUME OVER CALLS ELSEWHERE
 
@@ -80,6 +85,22 @@ no_half (DropChunkRecord name) = no_generation (length (volume_body (DropChunkRe
 some_same : {X : Type 0} (x y : X) → Some x ≡ Some y → x ≡ y
 some_same x y is = cc
 
+-- its records fold to the volume with it
+record_folds : (records : List (List ℕ)) (volume after : Volume) (r : VolumeRecord) → IsVolumeRecord r → volume_after volume r ≡ Some after → volume_of records ≡ Some volume → volume_of (records ++ volume_body r ∷ []) ≡ Some after
+record_folds records volume after r lawful is folds =
+    fold_more volume_step empty_volume records (volume_body r)
+    ∙ ap (option_and_then (λ (s : Volume). volume_step s (volume_body r))) folds
+    ∙ ap (option_and_then (λ (x : VolumeRecord). volume_after volume x)) (volume_read r lawful)
+    ∙ is
+
+-- where a crash leaves it or not, the place says the volume with it or without
+pub volume_steps : (place : ℕ) (v : VolumeValue) (volume next : Volume) (r : VolumeRecord) (d : Disk) (b c : Images) → IsVolumeRecord r → volume_after volume r ≡ Some next → VolumeStands place v d volume → Crash d b → OneMoreAt place (volume_body r) b c
+    → (volume_at c place ≡ Some volume) ⊎ (volume_at c place ≡ Some next)
+volume_steps place v volume next r d b c lawful is stands crash more = ⊎_elim
+    (λ none. inl (ap (option_and_then volume_of) none ∙ stands.folds))
+    (λ one. inr (ap (option_and_then volume_of) one ∙ record_folds stands.records volume next r lawful is stands.folds))
+    (stands_steps place stands.records (volume_body r) v.log d b c stands.log crash more)
+
 -- once the body of a record is appended, the volume with it stands
 pub volume_grown : (place : ℕ) (v w : VolumeValue) (volume after : Volume) (r : VolumeRecord) (d e : Disk) (image : List ℕ) → IsVolumeRecord r → volume_after volume r ≡ Some after → (stands : VolumeStands place v d volume)
     → IsAdded v w r → LogStands place (stands.records ++ volume_body r ∷ []) (after_append v.log (length (volume_body r))) e → d v.log.device ≡ at_rest image → v.log.end < length image
@@ -87,11 +108,7 @@ pub volume_grown : (place : ℕ) (v w : VolumeValue) (volume after : Volume) (r 
 volume_grown place v w volume after r d e image lawful is stands added log rest inside written =
     let body = volume_body r in
     let end = v.log.end + 5 + length body in
-    let folded : volume_of (stands.records ++ body ∷ []) ≡ Some after =
-    fold_more volume_step empty_volume stands.records body
-    ∙ ap (option_and_then (λ (s : Volume). volume_step s body)) stands.folds
-    ∙ ap (option_and_then (λ (x : VolumeRecord). volume_after volume x)) (volume_read r lawful)
-    ∙ is in
+    let folded = record_folds stands.records volume after r lawful is stands.folds in
     let shaped : Some w.shape ≡ Some (shape_of after) =
     sym added.shape ∙ ap (λ (s : Shape). shape_after s r) stands.shape ∙ shape_step volume r ∙ ap (option_map shape_of) is in
     let kept : Keeps v.places image v.log.end volume = subst (λ (m : Medium). Keeps v.places m.image v.log.end volume) rest stands.bytes in

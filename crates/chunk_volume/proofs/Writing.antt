@@ -4,9 +4,10 @@ use Rattle.std.specs.FinMap.{contains_key}
 use Rattle.std.proofs.Common.{◌≡◌, ℕ, ◌+◌, List, [], ◌∷◌, ◌++◌, length, Bool, true, Option, Some, None, Result, Ok, Err, refl, sym, ◌∙◌, ap, subst}
 use Rattle.std.specs.Option.{option_map}
 use Rattle.std.proofs.lemmas.Option.{none-some}
+use Rattle.std.proofs.lemmas.Result.{on_ok_weaker}
 use Rattle.volume_disk.specs.Medium.{at_rest}
 use Rattle.volume_disk.specs.Disk.{Disk, Images, Crash, SameDisk}
-use Rattle.volume_disk.proofs.Moments.{begins, weaker}
+use Rattle.volume_disk.proofs.Moments.{begins}
 use Rattle.site_forms.specs.Halves.{Half, OneMoreAt, device}
 use Rattle.site_forms.specs.Halves.Half.{First, Second}
 use Rattle.site_forms.specs.Sites.{shape_of, HoldsChunk}
@@ -78,6 +79,7 @@ module _ {D : Type 0} (disk : D → Disk) (moment : D → ℕ) (left_since : D �
     others = appended.others;
     added = added_stands after at grown added appended;
     kept = λ place volume stands refused. absurd refused;
+    alone = λ refused. absurd refused;
     moments = λ place volume stands. appended.moments place stands.records (no_half r) stands.log;
   }
 
@@ -87,6 +89,7 @@ module _ {D : Type 0} (disk : D → Disk) (moment : D → ℕ) (left_since : D �
     others = appended.others;
     added = λ place volume stands. tt;
     kept = λ place volume stands refused. absurd refused;
+    alone = λ refused. absurd refused;
     moments = λ place volume stands. appended.moments place stands.records (no_half r) stands.log;
   }
 
@@ -97,6 +100,7 @@ adds_refused moment left_since old d v w r error only_now same = record {
   others = λ other out. refl;
   added = λ place volume stands. tt;
   kept = λ place volume stands refused. stands_same place v w volume d same stands;
+  alone = λ refused. refl;
   moments = λ place volume stands.
       begins moment left_since old (λ c. (b : Images) × Crash d b × OneMoreAt place (volume_body r) b c)
       (λ c left. let crash = only_now c left in (c, crash, none_more place stands.records v.log d (volume_body r) c stands.log crash));
@@ -109,7 +113,7 @@ pub held_shape : (place : ℕ) (v : VolumeValue) (volume : Volume) (d : Disk) (n
 held_shape place v volume d name stands held = ap (λ (s : Shape). contains_key s.chunks name) stands.shape ∙ same_held volume name ∙ held
 
 -- a refusal that is no fault is one whatever would have been answered
-told_refused : (error : VolError) → IsRefused {T = Bool} (Err error) → IsRefused {T = Unit {0}} (Err error)
+pub told_refused : (error : VolError) → IsRefused {T = Bool} (Err error) → IsRefused {T = Unit {0}} (Err error)
 told_refused RackFault refused = absurd refused
 told_refused (Damage device at) refused = tt
 told_refused (BadChunk chunk found) refused = tt
@@ -124,34 +128,39 @@ module _ {D : Type 0} (moment : D → ℕ) (left_since : D → ℕ → Images �
   pub puts_new : ¬ HoldsChunk v.shape name → AddsRecord moment left_since old new d e v w {T = Unit {0}} (ChunkRecord name bytes) (Ok tt) → PutsChunkOn moment left_since old new d e v w name bytes (Ok true)
   puts_new lacking adds = record {
     others = adds.others;
+    quiet = λ held. absurd (lacking held);
     added = λ place volume stands _. adds.added place volume stands;
     held = λ place volume stands held _. absurd (lacking (held_shape place v volume d name stands held));
     kept = λ place volume stands refused. absurd refused;
-    moments = adds.moments;
+    alone = λ _ refused. absurd refused;
+    moments = λ place volume stands _. adds.moments place volume stands;
   }
 
   pub puts_refused : (error : VolError) → ¬ HoldsChunk v.shape name → AddsRecord moment left_since old new d e v w {T = Unit {0}} (ChunkRecord name bytes) (Err error) → PutsChunkOn moment left_since old new d e v w name bytes (Err error)
   puts_refused error lacking adds = record {
     others = adds.others;
+    quiet = λ held. absurd (lacking held);
     added = λ place volume stands _. tt;
     held = λ place volume stands held _. absurd (lacking (held_shape place v volume d name stands held));
     kept = λ place volume stands refused. adds.kept place volume stands (told_refused error refused);
-    moments = adds.moments;
+    alone = λ _ refused. adds.alone (told_refused error refused);
+    moments = λ place volume stands _. adds.moments place volume stands;
   }
 
-on_ok : (r : Result Bool VolError) (P : Type 0) → ((added : Bool) → r ≡ Ok added → P) → OnOk r P
-on_ok (Ok added) P holds = holds added refl
-on_ok (Err error) P holds = tt
-
 -- a chunk that is held is compared, and nothing changes
-pub puts_compared : {D : Type 0} (moment : D → ℕ) (left_since : D → ℕ → Images → Type 0) (old new : D) (d e : Disk) (v w : VolumeValue) (name bytes : List ℕ) (result : Result Bool VolError) → HoldsChunk v.shape name → (IsRefused result → w ≡ v) → ((added : Bool) → result ≡ Ok added → w ≡ v)
+pub puts_compared : {D : Type 0} (moment : D → ℕ) (left_since : D → ℕ → Images → Type 0) (old new : D) (d e : Disk) (v w : VolumeValue) (name bytes : List ℕ) (result : Result Bool VolError) → HoldsChunk v.shape name → (IsRefused result → w ≡ v) → OnOk result (w ≡ v)
     → Quiet moment left_since old new d e → ((place : ℕ) (volume : Volume) → VolumeStands place v d volume → FindsHeld volume name bytes result) → PutsChunkOn moment left_since old new d e v w name bytes result
-puts_compared moment left_since old new d e v w name bytes result held refused_same ok_same quiet finds = record {
-  others = λ other out. quiet.same other;
-  added = λ place volume stands lacking. absurd (lacking (sym (same_held volume name) ∙ ap (λ (s : Shape). contains_key s.chunks name) (sym stands.shape) ∙ held));
-  held = λ place volume stands _ _. (finds place volume stands, on_ok result (VolumeStands place w e volume) (λ added is. subst (λ (x : VolumeValue). VolumeStands place x e volume) (sym (ok_same added is)) (stands_quiet place v volume d e quiet.same stands)));
-  kept = λ place volume stands refused. subst (λ (x : VolumeValue). VolumeStands place x e volume) (sym (refused_same refused)) (stands_quiet place v volume d e quiet.same stands);
-  moments = λ place volume stands.
-      weaker moment left_since old new (Crash d) (λ c. (b : Images) × Crash d b × OneMoreAt place (volume_body (ChunkRecord name bytes)) b c) quiet.moments
-      (λ c crash. (c, crash, none_more place stands.records v.log d (volume_body (ChunkRecord name bytes)) c stands.log crash));
-}
+puts_compared moment left_since old new d e v w name bytes result held refused_same ok_same quiet finds =
+    let holds : (place : ℕ) (volume : Volume) → VolumeStands place v d volume → HoldsChunk volume name = λ place volume stands.
+    sym (same_held volume name) ∙ ap (λ (s : Shape). contains_key s.chunks name) (sym stands.shape) ∙ held in
+    let stays : (place : ℕ) (volume : Volume) → VolumeStands place v d volume → w ≡ v → VolumeStands place w e volume = λ place volume stands same.
+    subst (λ (x : VolumeValue). VolumeStands place x e volume) (sym same) (stands_quiet place v volume d e quiet.same stands) in
+    record {
+      others = λ other out. quiet.same other;
+      quiet = λ _. quiet;
+      added = λ place volume stands lacking. absurd (lacking (holds place volume stands));
+      held = λ place volume stands _ _. (finds place volume stands, on_ok_weaker result (stays place volume stands) ok_same);
+      kept = λ place volume stands refused. stays place volume stands (refused_same refused);
+      alone = λ lacking. absurd (lacking held);
+      moments = λ place volume stands lacking. absurd (lacking (holds place volume stands));
+    }

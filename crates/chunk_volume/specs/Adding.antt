@@ -4,6 +4,7 @@ use Rattle.std.specs.FinMap as map
 use Rattle.sha2.specs.Sha256.{sha256}
 use Rattle.volume_disk.specs.Disk.{Disk, Images, Crash, SameElsewhere}
 use Rattle.volume_disk.specs.Time.{Passes}
+use Rattle.device_pieces.specs.Quiet.{Quiet}
 use Rattle.site_forms.specs.Halves.{OneMoreAt}
 use Rattle.site_forms.specs.Sites.{HoldsFile, HoldsChunk}
 use Rattle.site_forms.specs.VolumeRecords.{VolumeRecord, volume_body}
@@ -70,8 +71,8 @@ RefusesSpent v w result = v.log.spent ≡ true → (result ≡ Err Spent) × (w 
 
 -- bytes are compared with those that are held under their name. On Ok they have the same length; they are equal where
 -- the rack is honest.
-abbrev pub Compares : VolumeValue → VolumeValue → List ℕ → List ℕ → Result Bool VolError → Type 0
-Compares v w name bytes (Ok added) = (added ≡ false) × (map.get v.shape.chunks name ≡ Some (length bytes)) × (w ≡ v)
+abbrev pub Compares : {T : Type 0} → VolumeValue → VolumeValue → List ℕ → List ℕ → Result T VolError → Type 0
+Compares v w name bytes (Ok done) = (map.get v.shape.chunks name ≡ Some (length bytes)) × (w ≡ v)
 Compares v w name bytes (Err (Damage device at)) = (device ≡ v.log.device) × (map.get v.places name ≡ Some at) × (w ≡ v)
 Compares v w name bytes (Err (BadChunk chunk found)) = (chunk ≡ name) × (found ≢ name) × (w ≡ v)
 Compares v w name bytes (Err (Collision chunk)) = (chunk ≡ name) × (w ≡ v)
@@ -82,10 +83,15 @@ Compares v w name bytes (Err (DeviceFull device at len)) = ⊥
 Compares v w name bytes (Err Spent) = ⊥
 Compares v w name bytes (Err Memory) = ⊥
 
+-- what a volume is after bytes are compared with those that it holds, on every rack
+pub record ComparesChunk (v w : VolumeValue) (name bytes : List ℕ) (result : Result (Unit {0}) VolError) : Type 0 where
+  pub spent : RefusesSpent v w result
+  pub fresh : v.log.spent ≡ false → Compares v w name bytes result
+
 -- what a volume is after each of the calls that write, on every rack
 pub record PutsChunk (v w : VolumeValue) (name bytes : List ℕ) (result : Result Bool VolError) : Type 0 where
   pub spent : RefusesSpent v w result
-  pub held : v.log.spent ≡ false → HoldsChunk v.shape name → Compares v w name bytes result
+  pub held : v.log.spent ≡ false → HoldsChunk v.shape name → Compares v w name bytes result × IfOk result (λ added. added ≡ false)
   pub lacking : v.log.spent ≡ false → ¬ HoldsChunk v.shape name → Adds v w (ChunkRecord name bytes) result × IfOk result (λ added. added ≡ true)
 
 pub record PutsFile (v w : VolumeValue) (name : List ℕ) (list : List (List ℕ)) (result : Result (Unit {0}) VolError) : Type 0 where
@@ -116,8 +122,8 @@ IsRefused (Err Spent) = ⊤
 IsRefused (Err Memory) = ⊤
 
 -- what the bytes that are held under a name say to a comparison
-abbrev pub FindsHeld : Volume → List ℕ → List ℕ → Result Bool VolError → Type 0
-FindsHeld volume name bytes (Ok added) = map.get volume.chunks name ≡ Some bytes
+abbrev pub FindsHeld : {T : Type 0} → Volume → List ℕ → List ℕ → Result T VolError → Type 0
+FindsHeld volume name bytes (Ok done) = map.get volume.chunks name ≡ Some bytes
 FindsHeld volume name bytes (Err (Damage device at)) = ⊥
 FindsHeld volume name bytes (Err (BadChunk chunk found)) = (held : List ℕ) × (map.get volume.chunks name ≡ Some held) × (sha256 held ≡ found)
 FindsHeld volume name bytes (Err (Collision chunk)) = (held : List ℕ) × (map.get volume.chunks name ≡ Some held) × (sha256 held ≡ name) × (held ≢ bytes)
@@ -134,19 +140,23 @@ StandsAfter place w e volume r = (after : Volume) × (volume_after volume r ≡ 
 
 module _ {D : Type 0} (moment : D → ℕ) (left_since : D → ℕ → Images → Type 0) (old new : D) (d e : Disk) (v w : VolumeValue) where
   -- what adding a record does to the disk, for a volume that stands for a place: no other device changes; once done the
-  -- volume has the record more; a refusal that is no fault leaves it standing; and a crash at any moment leaves at this
-  -- place the same records or one more, and the same at the others
+  -- volume has the record more; a refusal that is no fault leaves it standing, and the rack alone; and a crash at any
+  -- moment leaves at this place the same records or one more, and the same at the others
   pub record AddsRecord {T : Type 0} (r : VolumeRecord) (result : Result T VolError) : Type 0 where
     pub others : SameElsewhere v.log.device d e
     pub added : (place : ℕ) (volume : Volume) → VolumeStands place v d volume → OnOk result (StandsAfter place w e volume r)
     pub kept : (place : ℕ) (volume : Volume) → VolumeStands place v d volume → IsRefused result → VolumeStands place w e volume
+    pub alone : IsRefused result → new ≡ old
     pub moments : (place : ℕ) (volume : Volume) → VolumeStands place v d volume → Passes moment left_since old new (λ c. (b : Images) × Crash d b × OneMoreAt place (volume_body r) b c)
 
-  -- the same of a chunk. One that is held is compared with the bytes on the disk.
+  -- the same of a chunk. One that is held is compared with the bytes on the disk: nothing is written, and at no moment does
+  -- a crash leave anything new.
   pub record PutsChunkOn (name bytes : List ℕ) (result : Result Bool VolError) : Type 0 where
     pub others : SameElsewhere v.log.device d e
+    pub quiet : HoldsChunk v.shape name → Quiet moment left_since old new d e
     pub added : (place : ℕ) (volume : Volume) → VolumeStands place v d volume → ¬ HoldsChunk volume name → OnOk result (StandsAfter place w e volume (ChunkRecord name bytes))
     pub held : (place : ℕ) (volume : Volume) → VolumeStands place v d volume → HoldsChunk volume name → v.log.spent ≡ false → FindsHeld volume name bytes result × OnOk result (VolumeStands place w e volume)
     pub kept : (place : ℕ) (volume : Volume) → VolumeStands place v d volume → IsRefused result → VolumeStands place w e volume
-    pub moments : (place : ℕ) (volume : Volume) → VolumeStands place v d volume
+    pub alone : ¬ HoldsChunk v.shape name → IsRefused result → new ≡ old
+    pub moments : (place : ℕ) (volume : Volume) → VolumeStands place v d volume → ¬ HoldsChunk volume name
         → Passes moment left_since old new (λ c. (b : Images) × Crash d b × OneMoreAt place (volume_body (ChunkRecord name bytes)) b c)

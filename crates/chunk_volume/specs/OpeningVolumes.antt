@@ -1,5 +1,5 @@
 -- What opening a volume does.
-use Rattle.std.specs.Prelude.{◌≡◌, ◌⊎◌, ℕ, suc, ◌+◌, ◌<◌, ⊤, false, List, length, take, Some, None, IsSome, Result, Ok, Err}
+use Rattle.std.specs.Prelude.{◌≡◌, ◌⊎◌, ℕ, suc, ◌+◌, ◌<◌, ⊤, false, List, length, take, Some, None, IsSome, Result, Ok, Err, OnOk}
 use Rattle.volume_disk.specs.Disk.{Disk, Images, Crash}
 use Rattle.volume_disk.specs.Time.{Passes}
 use Rattle.site_forms.specs.Logs.{parse, log_size}
@@ -7,7 +7,7 @@ use Rattle.site_forms.specs.Logs.Parsed.{Good}
 use Rattle.site_forms.specs.Halves.{Half, device as half_device, in_force as half_in_force, without_half, SameRecords}
 use Rattle.site_forms.specs.Sites.{volume_at}
 use Rattle.site_forms.specs.Volumes.{Volume, volume_of}
-use Rattle.chunk_log.specs.PlaceHalves.{SameOutside, images_of, half_image, IsOfPlace, IsDamaged}
+use Rattle.chunk_log.specs.PlaceHalves.{SameOutside, RestsAt, images_of, half_image, IsOfPlace, IsDamaged}
 use Rattle.chunk_volume.specs.declared.errors.VolError.{VolError}
 use Rattle.chunk_volume.specs.declared.errors.VolError.TheVariants.{RackFault, Damage, BadChunk, Collision, Exists, NoSuchFile, DeviceFull, Spent, Memory}
 use Rattle.chunk_volume.specs.Standing.{VolumeStands}
@@ -59,8 +59,10 @@ IsPlaceVolume d e place (Err NoSuchFile) = ⊥
 IsPlaceVolume d e place (Err (DeviceFull device at len)) = ⊥
 IsPlaceVolume d e place (Err Spent) = ⊥
 
--- opening the volume of a place: a crash at any moment leaves the same records at every place
+-- opening the volume of a place: no other device changes; once it is open nothing is pending at the two halves of the
+-- place; and a crash at any moment leaves the same records at every place
 pub record OpensVolume {D : Type 0} (moment : D → ℕ) (left_since : D → ℕ → Images → Type 0) (old new : D) (d e : Disk) (place : ℕ) (result : Result VolumeValue VolError) : Type 0 where
   pub others : SameOutside place d e
   pub volume : IsPlaceVolume d e place result
+  pub rest : OnOk result (RestsAt place e)
   pub moments : Passes moment left_since old new (λ c. (b : Images) × Crash d b × SameRecords b c)

@@ -1,5 +1,5 @@
 -- Bytes of chunks, as they are read from a device.
-use Rattle.std.specs.Prelude.{◌≡◌, ◌≢◌, ◌↔◌, ℕ, ◌+◌, ◌<◌, ⊤, Bool, true, false, List, length, take, drop, Some, Result, Ok, Err}
+use Rattle.std.specs.Prelude.{◌≡◌, ◌≢◌, ◌↔◌, ℕ, ◌+◌, ◌<◌, ⊤, true, false, List, length, take, drop, Some, Result, Ok, Err}
 use Rattle.std.specs.FinMap as map
 use Rattle.sha2.specs.Sha256.{sha256}
 use Rattle.chunk_log.specs.declared.errors.LogError.{LogError}
@@ -61,8 +61,8 @@ pub record ReadsHeld (v : VolumeValue) (name piece : List ℕ) (result : Result 
   pub reads : ReadsPiece v.log.device at len name piece result
 
 -- what a comparison says of bytes that are held under a name: the same, with another digest, or others with this digest
-abbrev pub JudgesHeld : List ℕ → Compared → Result Bool VolError → Type 0
-JudgesHeld name c (Ok added) = (added ≡ false) × (c.is_same ≡ true)
+abbrev pub JudgesHeld : List ℕ → Compared → Result (Unit {0}) VolError → Type 0
+JudgesHeld name c (Ok done) = c.is_same ≡ true
 JudgesHeld name c (Err (BadChunk chunk found)) = (chunk ≡ name) × (found ≡ c.found) × (found ≢ name) × (c.is_same ≡ false)
 JudgesHeld name c (Err (Collision chunk)) = (chunk ≡ name) × (c.found ≡ name) × (c.is_same ≡ false)
 JudgesHeld name c (Err RackFault) = ⊥

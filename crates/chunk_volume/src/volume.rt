@@ -11,7 +11,7 @@ ghost use Rattle.site_forms.specs.VolumeRecords.VolumeRecord.{ChunkRecord, FileR
 ghost use Rattle.site_forms.specs.Volumes.{Volume as FormVolume, chunk_or, holds_all, keeps_limits, may_add_file, may_drop_chunk};
 ghost use Rattle.device_pieces.specs.Quiet.{Quiet};
 ghost use Rattle.chunk_volume.specs.declared.errors.VolError.TheVariants.{RackFault};
-ghost use Rattle.chunk_volume.specs.Adding.{PutsChunk, PutsFile, DropsFile, DropsChunk, Adds, Compares, FindsHeld, IsSame, AddsRecord, PutsChunkOn};
+ghost use Rattle.chunk_volume.specs.Adding.{PutsChunk, PutsFile, DropsFile, DropsChunk, Adds, Compares, ComparesChunk, FindsHeld, IsSame, AddsRecord, PutsChunkOn};
 ghost use Rattle.chunk_volume.specs.OpeningVolumes.{AnswersVolume, OpensVolume};
 ghost use Rattle.chunk_volume.specs.ReadingVolumes.{ReadsChunk, ReadsFile, FindsChunk, FindsFile, recipe_of};
 ghost use Rattle.chunk_volume.specs.Pieces.{ReadsHeld, FindsPiece, JudgesHeld};
@@ -163,10 +163,33 @@ impl Volume {
             return Err(VolError::Spent);
         }
         if let Some(extent) = self.holding.extent(name) {
-            return self.compare_held(rack, name, extent, bytes);
+            self.compare_held(rack, name, extent, bytes)?;
+            return Ok(false);
         }
         self.add_chunk(rack, name, bytes)?;
         Ok(true)
+    }
+
+    /// Compares bytes with those that are held under their digest, on the device. Writes nothing.
+    pub fn compare_chunk<R: Rack>(
+        &mut self,
+        rack: &mut R,
+        name: &[u8; 32],
+        bytes: &[u8],
+    ) -> Result<(), VolError>
+        requires name { name.now ≡ sha256 bytes.now }
+        requires held { HoldsChunk self.old.shape name.now }
+        ensures cause { HandsOn RackFault (R.faults rack.old) (R.faults rack.new) result }
+        ensures honest { R.honest rack.new ≡ R.honest rack.old }
+        ensures volume { ComparesChunk self.old self.new name.now bytes.now result }
+        ensures quiet { R.honest rack.old ≡ true → Quiet R.moment R.left_since rack.old rack.new (R.disk rack.old) (R.disk rack.new) }
+        ensures found { (place : ℕ) (volume : FormVolume) → R.honest rack.old ≡ true → VolumeStands place self.old (R.disk rack.old) volume → FindsHeld volume name.now bytes.now result }
+    {
+        if self.log.is_spent() {
+            return Err(VolError::Spent);
+        }
+        let extent = self.holding.extent(name).unwrap();
+        self.compare_held(rack, name, extent, bytes)
     }
 
     /// Adds a file whose chunks are held.
@@ -373,7 +396,7 @@ impl Volume {
         name: &[u8; 32],
         extent: Extent,
         bytes: &[u8],
-    ) -> Result<bool, VolError>
+    ) -> Result<(), VolError>
         requires name { name.now ≡ sha256 bytes.now }
         requires at { fin_map.get self.old.places name.now ≡ Some extent.at }
         requires len { fin_map.get self.old.shape.chunks name.now ≡ Some extent.len }
@@ -411,11 +434,11 @@ impl Volume {
 }
 
 // What a comparison says of bytes under a name that is the digest of others.
-fn judged(name: &[u8; 32], compared: &Compared) -> Result<bool, VolError>
+fn judged(name: &[u8; 32], compared: &Compared) -> Result<(), VolError>
     ensures { JudgesHeld name.now compared.now result }
 {
     if compared.is_same {
-        return Ok(false);
+        return Ok(());
     }
     if compared.found == *name {
         return Err(VolError::Collision { name: *name });

@@ -8,7 +8,7 @@ use Rattle.site_forms.specs.JournalRecords.{JournalRecord, journal_body, journal
 use Rattle.site_forms.specs.JournalRecords.JournalRecord.{BeginRecord, MovedRecord, UndoBeginRecord, UndoneRecord, AcceptedRecord}
 use Rattle.site_forms.specs.Names.{is_name_list}
 use Rattle.site_forms.specs.Phases.{phase_after, phase_step, phase_of, names_of}
-use Rattle.site_forms.specs.Sites.{shape_of}
+use Rattle.site_forms.specs.Sites.{IsFolded, shape_of}
 use Rattle.site_forms.specs.Views.{State}
 use Rattle.site_forms.specs.VolumeRecords.{VolumeRecord, IsVolumeRecord, volume_body, volume_record}
 use Rattle.site_forms.specs.Volumes.{Volume, Shape, empty_volume, fold_from, volume_after, volume_of, volume_step, shape_after}
@@ -20,7 +20,7 @@ use Rattle.volume_index.proofs.MapValues.{empty-map_values}
 use Rattle.volume_index.proofs.Nothing.{nothing_keeps}
 use Rattle.site_core.specs.Events.{Append, shapes_of, happens, happens_to, IsSpelled}
 use Rattle.site_core.specs.Events.Append.{ToA, ToB, ToJournal}
-use Rattle.site_core.specs.Lasting.{IsFolded, IsFoldedSite, IsKept}
+use Rattle.site_core.specs.Lasting.{IsFoldedSite, IsKept}
 use Rattle.site_core.proofs.Shapes.{shape_step}
 use Rattle.site_core.proofs.Turning.{if_some, mapped, record_keeps}
 

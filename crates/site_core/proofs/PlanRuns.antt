@@ -1,5 +1,5 @@
 -- Runs of appends, at the level of states.
-use Rattle.std.proofs.Common.{◌≡◌, inl, inr, ◌⊎◌, ⊎_elim, ℕ, ◌≤◌, List, [], ◌∷◌, ◌++◌, Some, refl, sym, ◌∙◌, ap}
+use Rattle.std.proofs.Common.{◌≡◌, ◌⊎◌, ⊎_elim, ℕ, List, [], ◌∷◌, ◌++◌, Some, refl, sym, ◌∙◌, ap}
 use Rattle.volume_disk.specs.Disk.{Disk, Images, Crash}
 use Rattle.volume_disk.specs.Time.{Passes}
 use Rattle.volume_disk.proofs.Moments.{begins, follows_on}
@@ -7,7 +7,7 @@ use Rattle.site_forms.specs.Sites.{state_of}
 use Rattle.site_forms.specs.Views.{State}
 use Rattle.site_core.specs.Events.{Append, IsNextAppend, after}
 use Rattle.site_core.specs.Events.Event.{Appends}
-use Rattle.site_core.specs.Plans.{after_plan, IsFrontOf, AreActions, Led}
+use Rattle.site_core.specs.Plans.{after_plan, AreActions, Led}
 
 -- one append more at the end of a plan
 pub plan_snoc : (s : State) (plan : List Append) (x : Append) → after_plan s (plan ++ x ∷ []) ≡ after (after_plan s plan) (Appends x)

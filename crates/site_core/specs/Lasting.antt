@@ -7,25 +7,16 @@ use Rattle.sha2.specs.Sha256.{sha256}
 use Rattle.site_forms.specs.declared.phase.Phase.{Phase}
 use Rattle.site_forms.specs.declared.phase.Phase.TheVariants.{Idle, Moving, Moved, Undoing}
 use Rattle.site_forms.specs.Names.{is_listed, is_name_list}
-use Rattle.site_forms.specs.Phases.{phase_of, names_of}
-use Rattle.site_forms.specs.Sites.{Fits, IsSite, IsTidy, shape_of}
+use Rattle.site_forms.specs.Phases.{names_of}
+use Rattle.site_forms.specs.Sites.{Fits, IsFolded, IsSite, IsTidy, shape_of}
 use Rattle.site_forms.specs.Views.{State, view, origin, joined_bytes}
 use Rattle.site_forms.specs.VolumeRecords.VolumeRecord.{ChunkRecord, FileRecord, DropFileRecord, DropChunkRecord}
-use Rattle.site_forms.specs.Volumes.{Volume, empty_volume, volume_of}
+use Rattle.site_forms.specs.Volumes.{Volume, empty_volume}
 use Rattle.volume_index.specs.HoldingValues.{KeepsShape}
 use Rattle.site_core.specs.Steps.{remaining}
 use Rattle.site_core.specs.Events.{Append, Event, Shapes, happens_to, after}
 use Rattle.site_core.specs.Events.Append.{ToA, ToB, ToJournal}
 use Rattle.site_core.specs.Events.Event.{Appends, Reads, Reopens}
-
--- records fold to a state
-pub record IsFolded (s : State) : Type 0 where
-  pub records_a : List (List ℕ)
-  pub records_b : List (List ℕ)
-  pub records_j : List (List ℕ)
-  pub a : volume_of records_a ≡ Some s.a
-  pub b : volume_of records_b ≡ Some s.b
-  pub phase : phase_of records_j ≡ Some s.phase
 
 -- a state that records fold to, and that is a site
 pub record IsFoldedSite (s : State) : Type 0 where

@@ -1,7 +1,7 @@
 -- Plans of appends, and what images say after a part of one.
-use Rattle.std.specs.Prelude.{◌≡◌, ℕ, List, [], ◌∷◌, ◌++◌, map as each, Some}
-use Rattle.volume_disk.specs.Disk.{Images}
-use Rattle.site_forms.specs.Sites.{state_of}
+use Rattle.std.specs.Prelude.{◌≡◌, List, [], ◌∷◌, ◌++◌, map as each, Some}
+use Rattle.volume_disk.specs.Disk.{Disk, Images, Crash}
+use Rattle.site_forms.specs.Sites.{state_of, IsSiteAt}
 use Rattle.site_forms.specs.Views.{State}
 use Rattle.site_core.specs.Events.{Append, Event, IsNextAppend, after, after_all}
 use Rattle.site_core.specs.Events.Event.{Appends}
@@ -23,3 +23,7 @@ pub record Led (Q : List Append → Type 0) (s : State) (c : Images) : Type 0 wh
   pub plan : List Append
   pub within : Q plan
   pub now : state_of c ≡ Some (after_plan s plan)
+
+-- whatever a crash leaves of these devices is a site
+abbrev pub IsSiteRack : Disk → Type 0
+IsSiteRack d = (c : Images) → Crash d c → IsSiteAt c

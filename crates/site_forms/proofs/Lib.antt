@@ -1,4 +1,5 @@
 pub mod Agree
+pub mod Distinct
 pub mod Extend
 pub mod Folds
 pub mod Halves
@@ -8,5 +9,6 @@ pub mod NameLists
 pub mod NameTests
 pub mod Records
 pub mod Small
+pub mod States
 pub mod Walks
 pub mod Whole

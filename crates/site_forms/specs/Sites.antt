@@ -113,3 +113,12 @@ state_of c = option_and_then (λ a. option_and_then (λ b. option_map (λ phase.
 -- six images that are a site
 abbrev pub IsSiteAt : (ℕ → List ℕ) → Type 0
 IsSiteAt c = (s : State) × (state_of c ≡ Some s) × IsSite s
+
+-- records fold to a state
+pub record IsFolded (s : State) : Type 0 where
+  pub records_a : List (List ℕ)
+  pub records_b : List (List ℕ)
+  pub records_j : List (List ℕ)
+  pub a : volume_of records_a ≡ Some s.a
+  pub b : volume_of records_b ≡ Some s.b
+  pub phase : phase_of records_j ≡ Some s.phase

@@ -2,7 +2,7 @@
 ghost use Rattle.std.specs.Prelude.{◌≡◌, ◌≢◌, ◌+◌, ◌^◌, ◌<◌, ◌≤◌, ℕ, List, [], ◌∷◌, ◌++◌, length, take, drop, slice_index, slice_index_or, All, Option, Some, None, ◌↔◌, true};
 ghost use Rattle.site_forms.specs.Logs.{parse, framed, blocks, log_size, IsBody, HasBodyAt};
 ghost use Rattle.site_forms.specs.Logs.Parsed.{Good, Bad};
-ghost use Rattle.site_forms.specs.Halves.{half_record, half_number, generation, stronger, in_force, without_half, IsBelow, IsClosed};
+ghost use Rattle.site_forms.specs.Halves.{half_record, half_number, generation, stronger, in_force, without_half, IsBelow, IsClosed, SameRecords};
 ghost use Rattle.site_forms.specs.Halves.Half.{First, Second};
 ghost use Rattle.std.specs.Option.{option_and_then};
 ghost use Rattle.file_names.specs.FileNames.{IsFileName};
@@ -11,7 +11,8 @@ ghost use Rattle.site_forms.specs.VolumeRecords.{VolumeRecord, IsVolumeRecord, v
 ghost use Rattle.site_forms.specs.JournalRecords.{JournalRecord, journal_body, journal_record};
 ghost use Rattle.site_forms.specs.Volumes.{Volume, volume_of, volume_step};
 ghost use Rattle.site_forms.specs.Phases.{phase_of, phase_step};
-ghost use Rattle.site_forms.specs.Sites.{IsSiteAt};
+ghost use Rattle.site_forms.specs.Sites.{volume_at, phase_at, state_of, IsFolded, IsSiteAt};
+ghost use Rattle.site_forms.specs.Views.{State};
 
 /// The laws of gated logs.
 pub fn log_laws()
@@ -59,4 +60,14 @@ pub fn fold_laws()
     ensures phase { (bodies : List (List ℕ)) (body : List ℕ) → phase_of (bodies ++ body ∷ []) ≡ option_and_then (λ phase. phase_step phase body) (phase_of bodies) }
     // blank devices are a site
     ensures blank { (c : ℕ → List ℕ) → ((dev : ℕ) → dev ≤ 5 → length (c dev) ≤ 1) → IsSiteAt c }
+{}
+
+/// The laws of states: what six images say.
+pub fn state_laws()
+    // what each of the three places says
+    ensures parts { (c : ℕ → List ℕ) (s : State) → (state_of c ≡ Some s) ↔ ((volume_at c 0 ≡ Some s.a) × (volume_at c 1 ≡ Some s.b) × (phase_at c ≡ Some s.phase)) }
+    // with the same records at every place they say the same
+    ensures same_state { (b c : ℕ → List ℕ) → SameRecords b c → state_of c ≡ state_of b }
+    // what they say is what records fold to
+    ensures folded { (c : ℕ → List ℕ) (s : State) → state_of c ≡ Some s → IsFolded s }
 {}

@@ -10,6 +10,6 @@ pub mod phase;
 
 pub use examples::{short_log_examples, small_log_examples, small_site_example};
 pub use gates::{Gate, LONGEST_BODY, gate_of};
-pub use laws::{fold_laws, half_laws, log_laws, record_laws};
+pub use laws::{fold_laws, half_laws, log_laws, record_laws, state_laws};
 pub use names::Names;
 pub use phase::Phase;

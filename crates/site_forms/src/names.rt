@@ -1,11 +1,12 @@
 // Lists of names of files.
-ghost use Rattle.std.specs.Prelude.{◌≡◌, ◌<◌, ◌++◌, [], ◌∷◌, length, slice_get, Some, OnOk, OnErr};
+ghost use Rattle.std.specs.Prelude.{◌≡◌, ◌<◌, ◌++◌, [], ◌∷◌, length, slice_get, Some, IfOk, OnOk, OnErr};
 ghost use Rattle.file_names.specs.FileNames.{IsFileName};
-ghost use Rattle.site_forms.specs.Names.{IsNames};
+ghost use Rattle.site_forms.specs.Names.{IsNames, is_distinct};
 
 use seed_model::NoMemory;
 use seed_model::limits::MOST_FILES;
 use std::alloc::Global;
+use std::collections::BTreeSet;
 use std::marker::Model;
 
 /// Lawful names of files, in order, at most 16,383 of them.
@@ -64,5 +65,18 @@ impl Names {
         ensures lawful { IsFileName result.now }
     {
         self.list[place as usize].as_str()
+    }
+    /// Whether no name stands twice. Takes memory for a reference to each name.
+    pub fn are_distinct(&self) -> Result<bool, NoMemory>
+        ensures { IfOk result (λ is. is ≡ is_distinct self.now) }
+    {
+        let mut seen = BTreeSet::new(self.alloc);
+        for place in 0..self.len() {
+            let name = self.get(place);
+            if !seen.insert(name)? {
+                return Ok(false);
+            }
+        }
+        Ok(true)
     }
 }

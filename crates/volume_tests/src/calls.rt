@@ -49,6 +49,19 @@ pub(crate) fn put_chunk(
     volume.put_chunk(rack, &name, bytes)
 }
 
+/// Compares bytes with those that are held under their digest, where the volume holds it.
+pub(crate) fn compare_chunk(
+    volume: &mut Volume,
+    rack: &mut MemRack,
+    bytes: &[u8],
+) -> Result<(), VolError> {
+    let name = Sha256::digest(bytes);
+    if volume.holding().chunk_len(&name).is_none() {
+        return Err(VolError::NoSuchFile);
+    }
+    volume.compare_chunk(rack, &name, bytes)
+}
+
 /// Puts a file of one chunk, where its name is lawful, the chunk is held, and there is no file yet.
 pub(crate) fn put_file(
     alloc: Global,

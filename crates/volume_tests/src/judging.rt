@@ -1,6 +1,6 @@
 // What a volume says of bytes that changed below it.
-use crate::calls::{open, put_chunk, read_chunk, read_file};
-use crate::images::{ABC, BBC, changed, is_changed, small};
+use crate::calls::{compare_chunk, open, put_chunk, read_chunk, read_file};
+use crate::images::{ABC, BBC, changed, is_changed, is_small, small};
 use chunk_volume::{VolError, Volume};
 use std::alloc::Global;
 use volume_disk::MemRack;
@@ -94,6 +94,31 @@ fn finds_changes(alloc: Global) -> bool {
         return false;
     };
     writes_nothing(&mut volume, &mut rack, b"abc")
+}
+
+/// Whether a comparison finds the bytes that are held, and writes nothing.
+fn agrees(alloc: Global) -> bool {
+    let Some((mut rack, mut volume)) = small(alloc) else {
+        return false;
+    };
+    compare_chunk(&mut volume, &mut rack, b"abc") == Ok(()) && is_small(&rack)
+}
+
+/// Whether a comparison finds the changed chunk, and writes nothing.
+fn differs(alloc: Global) -> bool {
+    let Some((mut rack, mut volume)) = changed_small(alloc) else {
+        return false;
+    };
+    match compare_chunk(&mut volume, &mut rack, b"abc") {
+        Ok(()) => false,
+        Err(error) => is_bad(error) && is_changed(&rack),
+    }
+}
+
+#[test]
+fn compares_chunks(rt: HostRuntime) {
+    assert!(rt; agrees(rt.alloc()));
+    assert!(rt; differs(rt.alloc()));
 }
 
 #[test]

@@ -1,10 +1,10 @@
 use Rattle.std.proofs.Common.{rules, ◌∙◌, ◌≤◌, length, sym, ap, subst, arith}
 use Rattle.std.proofs.lemmas.Result.{on_ok_weaker}
-use Rattle.volume_disk.specs.Medium.{Medium}
+use Rattle.volume_disk.specs.Medium.{Medium, at_rest}
 use Rattle.volume_disk.specs.Disk.{Images, Crash}
 use Rattle.volume_disk.proofs.Moments.{begins, leads_on}
 use Rattle.volume_disk.proofs.Leads.{goes_on_same}
-use Rattle.chunk_log.specs.Shutting.{IsGuarded, IsBlankAtRest, SameOrShut}
+use Rattle.chunk_log.specs.Shutting.{IsGuarded, IsBlankAtRest, SameOrShut, closed_front}
 use Rattle.chunk_log.proofs.Shutting.{guarded_blank, rest_short, still_shut, no_change}
 use Rattle.chunk_log.proofs.retiring.empty_device.Goals as goal
 
@@ -16,7 +16,7 @@ returns-in_err-size-clause-empties g c = λ honest.
     let P = λ (x : Images). (b : Images) × Crash d b × SameOrShut device b x in
     let start = begins rack.moment rack.left_since c.args.rack.now P (λ x left. (x, g.met.R.Rack.only_now _ x honest left, no_change device x)) in
     let one = goes_on_same rack.moment rack.left_since _ _ _ P _ _ (λ t x le crash. g.met.R.Rack.counts_now _ t x honest le crash) start (c.size.ensures.time honest) (c.size.ensures.same honest) in
-    record { others = λ k out. c.size.ensures.same honest k; left = λ short. c.size.ensures.same honest; blank = search rules; moments = λ guarded. one }
+    record { others = λ k out. c.size.ensures.same honest k; left = λ short. c.size.ensures.same honest; image = λ long. search rules; blank = search rules; moments = λ guarded. one }
 
 pub returns-then-size-le1-clause-empties : goal.returns-then-size-le1-clause-empties
 returns-then-size-le1-clause-empties g c = λ honest.
@@ -30,6 +30,7 @@ returns-then-size-le1-clause-empties g c = λ honest.
     record {
       others = λ k out. c.size.ensures.same honest k;
       left = λ short. c.size.ensures.same honest;
+      image = λ long. absurd (omega (arith, long, short));
       blank = λ guarded. subst IsBlankAtRest (sym (c.size.ensures.same honest device)) (guarded_blank (d device) guarded short);
       moments = λ guarded. one;
     }
@@ -50,6 +51,7 @@ returns-in_err-shut_gate-clause-empties g c = λ honest.
     record {
       others = λ k out. shuts.others k out ∙ c.size.ensures.same honest k;
       left = λ short. absurd (omega (arith, short, c.in_ok-size.ensures.value honest, c.if-size-le1.false));
+      image = λ long. search rules;
       blank = search rules;
       moments = λ guarded.
           leads_on rack.moment rack.left_since _ _ _ (Crash d) (Crash mid) (SameOrShut device) (SameOrShut device) (λ t x le crash. g.met.R.Rack.counts_now _ t x honest_1 le crash) one
@@ -75,6 +77,7 @@ returns-clause-empties g c = λ honest.
     record {
       others = λ k out. cuts.others k out ∙ shuts.others k out ∙ c.size.ensures.same honest k;
       left = λ short. absurd (omega (arith, short, c.in_ok-size.ensures.value honest, c.if-size-le1.false));
+      image = λ _. on_ok_weaker c.cut_to_gate.result (λ done. done ∙ ap at_rest (shuts.front long ∙ ap (λ (m : Medium). closed_front m.image) same)) cuts.rest;
       blank = λ guarded. on_ok_weaker c.cut_to_gate.result (λ done. rest_short _ (shut device).image done) cuts.rest;
       moments = λ guarded.
           leads_on rack.moment rack.left_since _ _ _ (Crash d) (Crash shut) (SameOrShut device) (SameOrShut device) (λ t x le crash. g.met.R.Rack.counts_now _ t x honest_2 le crash)

@@ -16,6 +16,7 @@ returns-clause-retired g c = λ honest.
     record {
       others = empties.others;
       left = empties.left;
+      image = empties.image;
       kept = λ place records log beside stands.
           on_ok_weaker c.empty_device.result (λ blank. log_stays place device records log d e c.requires beside empties.others (λ image. blank_dormant (e device) image blank) stands)
           (empties.blank (guarded_beside place device records log d c.requires beside stands));
