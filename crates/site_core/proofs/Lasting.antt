@@ -24,7 +24,7 @@ use Rattle.site_core.specs.declared.action.Action.TheVariants.{CopyToB, AddToB, 
 use Rattle.site_core.specs.Events.{Append, Event, Shapes, shapes_of, happens, append_of, append_with, copied_bytes, next_action_of, CopiesChunk, MayBegin, MayAppend, Allowed, AreAllowed, after, after_all}
 use Rattle.site_core.specs.Events.Append.{ToJournal}
 use Rattle.site_core.specs.Events.Event.{Appends, Reads, Reopens}
-use Rattle.site_core.specs.Lasting.{IsFoldedSite, IsKept, IsRestored, IsSplit, LeavesOne, SameVolumes, StaysOpen, view_after, remaining_of}
+use Rattle.site_core.specs.Lasting.{HasValues, IsFoldedSite, IsKept, IsRestored, IsSplit, LeavesOne, SameVolumes, StaysOpen, view_after, remaining_of}
 use Rattle.site_core.specs.Steps.{list_of, lacking_names, chunks_to_copy, chunks_to_drop, files_beside, next_step, next_of, forth, back, remaining, steps_left}
 use Rattle.site_core.specs.declared.step.Step.{Step}
 use Rattle.site_core.specs.declared.step.Step.TheVariants.{Copy, Add, Drop, DropChunk, Finish}
@@ -36,7 +36,7 @@ use Rattle.site_core.proofs.Maps.{either, get_joined, used_by}
 use Rattle.site_core.proofs.NextSteps.{Tells, tells, Ends}
 use Rattle.site_core.proofs.Remaining.{held_kept}
 use Rattle.site_core.proofs.Shapes.{same_held}
-use Rattle.site_core.proofs.Values.{Happened, happened, state_acted, site_stays, HasValues, values_stay}
+use Rattle.site_core.proofs.Values.{Happened, happened, state_acted, site_stays, values_stay}
 use Rattle.site_core.proofs.Views.{append_view, action_origin, turn_origin}
 use Rattle.site_core.proofs.Ways.{way_from, among_a}
 
@@ -151,7 +151,7 @@ undone_restores s is (inr (inr mark)) = absurd (⊎_elim (λ (e : ToJournal Undo
 
 -- THE BEGIN, THE END, AND EVERY RECORD OF THE JOURNAL
 
-begin_kind : (s : State) (names : List (List ℕ)) → IsFoldedSite s → MayAppend s (ToJournal (BeginRecord names)) → MayBegin s.a s.b names
+pub begin_kind : (s : State) (names : List (List ℕ)) → IsFoldedSite s → MayAppend s (ToJournal (BeginRecord names)) → MayBegin s.a s.b names
 begin_kind s names is (inl next) = absurd (no_begin s.a s.b s.phase (copied_bytes s next.action) next.action next.appends)
   where
     no_begin : (a b : Volume) (phase : Phase) (bytes : List ℕ) (action : Action) → ToJournal (BeginRecord names) ≡ append_with a b phase bytes action → ⊥
@@ -277,10 +277,3 @@ event_values f s Reopens is busy may all = all
 pub all_values : (f : List ℕ → List ℕ) (s : State) (events : List Event) → IsFoldedSite s → AreAllowed s events → StaysOpen s events → HasValues f s → HasValues f (after_all s events)
 all_values f s [] is allowed stays all = all
 all_values f s (e ∷ events) is allowed stays all = all_values f (after s e) events (event_keeps s e is allowed.0) allowed.1 stays.1 (event_values f s e is stays.0 allowed.0 all)
-
--- THE VIEW OVER A RUN, while a migration is open
-
-pub all_views : (s : State) (events : List Event) (name : List ℕ) → IsFoldedSite s → AreAllowed s events → StaysOpen s events → ((t : State) (e : Event) → t.phase ≢ Idle → view_after t e name ≡ view t name) → view (after_all s events) name ≡ view s name
-all_views s [] name is allowed stays busy = refl
-all_views s (e ∷ events) name is allowed stays busy =
-    all_views (after s e) events name (event_keeps s e is allowed.0) allowed.1 stays.1 busy ∙ event_view s e name is allowed.0 ∙ busy s e stays.0

@@ -2,6 +2,7 @@ pub mod Acting
 pub mod Contents
 pub mod Counting
 pub mod Cursors
+pub mod EventRuns
 pub mod Fitting
 pub mod Folding
 pub mod Keeping
@@ -10,11 +11,14 @@ pub mod Lists
 pub mod Maps
 pub mod Merging
 pub mod NextSteps
+pub mod PlanRuns
 pub mod Remaining
+pub mod Restoring
 pub mod Searching
 pub mod Shapes
+pub mod Stillness
 pub mod Turning
+pub mod Undoing
 pub mod Values
-pub mod PlanRuns
 pub mod Views
 pub mod Ways

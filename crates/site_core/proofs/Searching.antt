@@ -14,7 +14,7 @@ use Rattle.volume_index.proofs.IndexReads.{held_by_place, lacking_by_place}
 use Rattle.volume_index.proofs.Indexing.{file_at}
 use Rattle.volume_index.proofs.Ranks.{count_keys}
 use Rattle.volume_index.proofs.TableReads.{key_is}
-use Rattle.site_core.specs.Cursors.{IsCopied, HoldsBefore, FindsLacking}
+use Rattle.site_core.specs.Cursors.{IsCopied, IsPast, HoldsBefore, FindsLacking}
 use Rattle.site_core.specs.Steps.{list_of, lacking_names, chunks_to_copy}
 use Rattle.site_core.specs.declared.search.Lacking.{Lacking}
 use Rattle.site_core.proofs.Lists.{none_filter}
@@ -173,3 +173,9 @@ lacked_is volume names i inside held lacks = position_is (λ n. not (map.contain
 
 pub none_lacked : (volume : Shape) (names : List (List ℕ)) (i : ℕ) → length names ≤ i → ((k : ℕ) → k < i → HoldsFile volume (get_or names k [])) → position (λ n. not (map.contains_key volume.files n)) names ≡ None
 none_lacked volume names i past held = no_position (λ n. not (map.contains_key volume.files n)) names (λ k inside. not_from_true (map.contains_key volume.files (get_or names k [])) (held k (omega (arith, inside, past))))
+
+-- PLACES THAT GO ON
+
+-- the next name is past each place of those before
+pub past_next : (name place at from : ℕ) → IsPast name place at from → IsPast name place (at + 1) 0
+past_next name place at from past = ⊎_elim (λ (before : name < at). inl (omega (arith, before))) (λ here. let same = here.0 in inl (omega (arith, same))) past

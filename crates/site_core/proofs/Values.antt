@@ -20,7 +20,7 @@ use Rattle.site_core.specs.declared.action.Action.{Action}
 use Rattle.site_core.specs.declared.action.Action.TheVariants.{CopyToB, AddToB, DropFromA, DropChunkA, Moved as RecordMoved, CopyToA, AddToA, DropFromB, DropChunkB, Undone}
 use Rattle.site_core.specs.Events.{Append, shapes_of, happens, append_of, copied_bytes, next_action_of, CopiesChunk, MayBeIdle, IsDigest, IsNamedByDigest, IsSpelled, IsTurn, MayAppend, MayAppendTo}
 use Rattle.site_core.specs.Events.Append.{ToA, ToB, ToJournal}
-use Rattle.site_core.specs.Lasting.{IsFoldedSite, IsKept}
+use Rattle.site_core.specs.Lasting.{EachChunk, HasValue, HasValues, IsFoldedSite, IsKept, value_in}
 use Rattle.site_core.specs.Steps.{next_step, next_of, forth, back}
 use Rattle.site_core.specs.declared.step.Step.{Step}
 use Rattle.site_core.specs.declared.step.Step.TheVariants.{Copy, Add, Drop, DropChunk, Finish}
@@ -162,9 +162,6 @@ spelled s x kept (inr (inr mark)) = spelled_turn x mark.turn
 
 -- THE CHUNKS OF A STATE
 
-abbrev pub EachChunk : (List ℕ → List ℕ → Type 0) → Volume → Type 0
-EachChunk P v = (c x : List ℕ) → map.get v.chunks c ≡ Some x → P c x
-
 abbrev pub IsNew : (List ℕ → List ℕ → Type 0) → Append → Type 0
 IsNew P (ToA r) = (c x : List ℕ) → r ≡ ChunkRecord c x → P c x
 IsNew P (ToB r) = (c x : List ℕ) → r ≡ ChunkRecord c x → P c x
@@ -231,13 +228,6 @@ digests s x kept site (inr (inl idle)) = new_digest x idle.digest
 digests s x kept site (inr (inr mark)) = new_turn ByDigest x mark.turn
 
 -- ONE VALUE OF A CHUNK
-
--- the bytes under a name in either volume
-abbrev pub value_in : State → List ℕ → List ℕ
-value_in s c = unwrap_or (map.get s.a.chunks c) (chunk_or [] s.b c)
-
-abbrev pub HasValue : (List ℕ → List ℕ) → List ℕ → List ℕ → Type 0
-HasValue f c x = f c ≡ x
 
 pub values_a : (s : State) → EachChunk (HasValue (value_in s)) s.a
 values_a s c x is = ap (λ (o : Option (List ℕ)). unwrap_or o (chunk_or [] s.b c)) is
@@ -320,9 +310,6 @@ site_stays s x next is may folds keeps =
     }
 
 -- VALUES OVER A RUN
-
-abbrev pub HasValues : (List ℕ → List ℕ) → State → Type 0
-HasValues f s = EachChunk (HasValue f) s.a × EachChunk (HasValue f) s.b
 
 pub values_stay : (f : List ℕ → List ℕ) (s : State) (x : Append) (next : State) → IsKept (shapes_of s) → s.phase ≢ Idle → HasValues f s → MayAppend s x → happens s x ≡ Some next → HasValues f next
 values_stay f s x next kept busy all may folds = state_chunks (HasValue f) s x next all.0 all.1 (new may) folds

@@ -19,13 +19,13 @@ use Rattle.site_forms.specs.Volumes.{Files, Volume, used, volume_after, may_add_
 use Rattle.volume_index.specs.HoldingValues.{KeepsShape}
 use Rattle.site_core.specs.Events.{Append, Shapes, shapes_of, happens, happens_to, append_of, next_action_of, MayBeIdle, IsTurn, MayAppend}
 use Rattle.site_core.specs.Events.Append.{ToA, ToB, ToJournal}
-use Rattle.site_core.specs.Lasting.{IsFoldedSite, IsKept, idle_view, phase_view, reading}
+use Rattle.site_core.specs.Lasting.{IsFoldedSite, IsKept, idle_view, phase_view, reading, value_in}
 use Rattle.site_core.specs.declared.action.Action.{Action}
 use Rattle.site_core.proofs.Contents.{view_as, reads_content, content_with_chunk, content_without_chunk}
 use Rattle.site_core.proofs.Folding.{folded_kept, shapes_step}
 use Rattle.site_core.proofs.Maps.{get_joined, same_bytes, with_cases, without_cases}
 use Rattle.site_core.proofs.Turning.{if_some, if_none, mapped}
-use Rattle.site_core.proofs.Values.{state_acted, value_in, same_values, no_next, open_phase, values_a, values_b}
+use Rattle.site_core.proofs.Values.{state_acted, same_values, no_next, open_phase, values_a, values_b}
 
 -- READS
 

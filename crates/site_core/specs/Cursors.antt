@@ -8,7 +8,9 @@ use Rattle.site_forms.specs.Sites.{HoldsFile, HoldsChunk}
 use Rattle.site_forms.specs.Volumes.{Shape}
 use Rattle.site_core.specs.declared.cursor.Cursor.{Cursor}
 use Rattle.site_core.specs.declared.search.Lacking.{Lacking}
-use Rattle.site_core.specs.Steps.{list_of}
+use Rattle.site_core.specs.declared.step.Step.{Step}
+use Rattle.site_core.specs.declared.step.Step.TheVariants.{Copy, Add, Drop, DropChunk, Finish}
+use Rattle.site_core.specs.Steps.{list_of, next_step}
 
 -- nothing of a file is to be copied: the target holds it, or all its chunks
 abbrev pub IsCopied : Shape → Shape → List ℕ → Type 0
@@ -44,6 +46,37 @@ IsCursorOf a b Idle c = Unit {0}
 IsCursorOf a b (Moving names) c = IsCursor a b names c
 IsCursorOf a b (Moved names) c = Unit {0}
 IsCursorOf a b (Undoing names) c = IsCursor b a names c
+
+-- a place in the list of the name at a place stands at or past another
+abbrev pub IsPast : ℕ → ℕ → ℕ → ℕ → Type 0
+IsPast name place other_name other_place = (name < other_name) ⊎ ((name ≡ other_name) × (place ≤ other_place))
+
+-- where a chunk to copy stands; past all names where there is none
+abbrev pub StandsThere : Shape → List (List ℕ) → ℕ → ℕ → Option (List ℕ) → Type 0
+StandsThere source names name place (Some chunk) = (name < length names) × (slice_get (list_of source (slice_index_or names name [])) place ≡ Some chunk)
+StandsThere source names name place None = name ≡ length names
+
+-- the places of a search stand where its step was found, past all names that came before
+abbrev pub StandsAt : Shape → List (List ℕ) → Cursor → Step → Type 0
+StandsAt source names c (Copy chunk) = StandsThere source names c.name c.chunk (Some chunk)
+StandsAt source names c (Add place) = (c.name ≡ length names) × (c.added ≡ place)
+StandsAt source names c (Drop place) = (c.name ≡ length names) × (c.added ≡ length names) × (c.dropped ≡ place)
+StandsAt source names c (DropChunk chunk) = (c.name ≡ length names) × (c.added ≡ length names) × (c.dropped ≡ length names)
+StandsAt source names c Finish = (c.name ≡ length names) × (c.added ≡ length names) × (c.dropped ≡ length names)
+
+-- a search goes on: none of its places goes back, and they come to where the step was found
+pub record GoesOn (source : Shape) (names : List (List ℕ)) (old new : Cursor) (step : Step) : Type 0 where
+  pub copied : IsPast old.name old.chunk new.name new.chunk
+  pub added : old.added ≤ new.added
+  pub dropped : old.dropped ≤ new.dropped
+  pub there : StandsAt source names new step
+
+-- the same of the search for the next action; where there is none, the cursor stays
+abbrev pub MovesCursor : Shape → Shape → Phase → Cursor → Cursor → Type 0
+MovesCursor a b Idle old new = new ≡ old
+MovesCursor a b (Moving names) old new = GoesOn a names old new (next_step a b names)
+MovesCursor a b (Moved names) old new = new ≡ old
+MovesCursor a b (Undoing names) old new = GoesOn b names old new (next_step b a names)
 
 -- the first chunk of a file that is to be copied; none where nothing is
 abbrev pub FindsLacking : Shape → Shape → List ℕ → Option Lacking → Type 0

@@ -1,17 +1,18 @@
 -- What lasts over the events of a site.
-use Rattle.std.specs.Prelude.{◌≡◌, ◌≢◌, ℕ, ◌+◌, true, List, [], ◌∷◌, ◌++◌, Option, Some, None, if◌then◌else◌}
+use Rattle.std.specs.Prelude.{◌≡◌, ◌≢◌, ℕ, ◌+◌, true, List, [], ◌∷◌, ◌++◌, Option, Some, None, unwrap_or, if◌then◌else◌}
 use Rattle.std.specs.Option.{option_and_then, option_map}
 use Rattle.std.specs.Str.{bytes_eq}
 use Rattle.std.specs.FinMap as map
 use Rattle.sha2.specs.Sha256.{sha256}
 use Rattle.site_forms.specs.declared.phase.Phase.{Phase}
 use Rattle.site_forms.specs.declared.phase.Phase.TheVariants.{Idle, Moving, Moved, Undoing}
+use Rattle.site_forms.specs.JournalRecords.JournalRecord.{BeginRecord}
 use Rattle.site_forms.specs.Names.{is_listed, is_name_list}
 use Rattle.site_forms.specs.Phases.{names_of}
 use Rattle.site_forms.specs.Sites.{Fits, IsFolded, IsSite, IsTidy, shape_of}
 use Rattle.site_forms.specs.Views.{State, view, origin, joined_bytes}
 use Rattle.site_forms.specs.VolumeRecords.VolumeRecord.{ChunkRecord, FileRecord, DropFileRecord, DropChunkRecord}
-use Rattle.site_forms.specs.Volumes.{Volume, empty_volume}
+use Rattle.site_forms.specs.Volumes.{Volume, chunk_or, empty_volume}
 use Rattle.volume_index.specs.HoldingValues.{KeepsShape}
 use Rattle.site_core.specs.Steps.{remaining}
 use Rattle.site_core.specs.Events.{Append, Event, Shapes, happens_to, after}
@@ -81,7 +82,60 @@ view_after s (Appends x) name = phase_view s.phase s x name
 view_after s (Reads read) name = view s name
 view_after s Reopens name = view s name
 
+-- the file that an append adds or drops
+abbrev pub file_of : Append → Option (List ℕ)
+file_of (ToA (ChunkRecord chunk bytes)) = None
+file_of (ToA (FileRecord file list)) = Some file
+file_of (ToA (DropFileRecord file)) = Some file
+file_of (ToA (DropChunkRecord chunk)) = None
+file_of (ToB (ChunkRecord chunk bytes)) = None
+file_of (ToB (FileRecord file list)) = Some file
+file_of (ToB (DropFileRecord file)) = Some file
+file_of (ToB (DropChunkRecord chunk)) = None
+file_of (ToJournal r) = None
+
+-- while no migration is open, an event adds or drops no file
+abbrev pub IsStill : State → Event → Type 0
+IsStill s (Appends x) = s.phase ≡ Idle → file_of x ≡ None
+IsStill s (Reads name) = Unit {0}
+IsStill s Reopens = Unit {0}
+
+abbrev pub AreStill : State → List Event → Type 0
+AreStill s [] = Unit {0}
+AreStill s (e ∷ events) = IsStill s e × AreStill (after s e) events
+
+-- nor does it add or drop this one
+abbrev pub Spares : List ℕ → State → Event → Type 0
+Spares file s (Appends x) = s.phase ≡ Idle → file_of x ≢ Some file
+Spares file s (Reads name) = Unit {0}
+Spares file s Reopens = Unit {0}
+
+abbrev pub AllSpare : List ℕ → State → List Event → Type 0
+AllSpare file s [] = Unit {0}
+AllSpare file s (e ∷ events) = Spares file s e × AllSpare file (after s e) events
+
+-- THE BYTES OF CHUNKS
+
+-- what is so of each chunk of a volume, by its name and its bytes
+abbrev pub EachChunk : (List ℕ → List ℕ → Type 0) → Volume → Type 0
+EachChunk P v = (chunk bytes : List ℕ) → map.get v.chunks chunk ≡ Some bytes → P chunk bytes
+
+-- the bytes of a chunk in either volume: A's where A holds it
+abbrev pub value_in : State → List ℕ → List ℕ
+value_in s chunk = unwrap_or (map.get s.a.chunks chunk) (chunk_or [] s.b chunk)
+
+abbrev pub HasValue : (List ℕ → List ℕ) → List ℕ → List ℕ → Type 0
+HasValue value chunk bytes = value chunk ≡ bytes
+
+-- each chunk of either volume has the bytes that these values say
+abbrev pub HasValues : (List ℕ → List ℕ) → State → Type 0
+HasValues value s = EachChunk (HasValue value) s.a × EachChunk (HasValue value) s.b
+
 -- THE ORIGIN
+
+-- a site with a migration of these files begun
+abbrev pub begun : State → List (List ℕ) → State
+begun s names = after s (Appends (ToJournal (BeginRecord names)))
 
 -- a migration is open whenever one of these events comes; it may end with the last
 abbrev pub StaysOpen : State → List Event → Type 0
@@ -93,6 +147,19 @@ pub record IsRestored (s : State) : Type 0 where
   pub files : s.a.files ≡ origin s
   pub tidy : IsTidy s.a
   pub nothing : s.b ≡ empty_volume
+
+-- A has again the files that it had, and the chunks with their bytes, and B has nothing
+pub record IsBack (before now : State) : Type 0 where
+  pub a : now.a ≡ before.a
+  pub b : now.b ≡ empty_volume
+
+-- A has the files that the two volumes had, with no other chunks, each with the bytes that it had in either, and B has
+-- nothing
+pub record IsUndone (before now : State) : Type 0 where
+  pub files : now.a.files ≡ origin before
+  pub tidy : IsTidy now.a
+  pub values : EachChunk (HasValue (value_in before)) now.a
+  pub nothing : now.b ≡ empty_volume
 
 -- the named files of the origin are those of B and the others those of A, with no other chunks in either
 pub record IsSplit (s : State) (names : List (List ℕ)) : Type 0 where

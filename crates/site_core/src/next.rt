@@ -1,6 +1,6 @@
 // The next action of a migration.
 ghost use Rattle.std.specs.Prelude.{◌≡◌};
-ghost use Rattle.site_core.specs.Cursors.{IsCursor, IsCursorOf};
+ghost use Rattle.site_core.specs.Cursors.{GoesOn, IsCursor, IsCursorOf, MovesCursor};
 ghost use Rattle.site_core.specs.Steps.{next_of, next_step as step_of};
 
 use crate::action::Action;
@@ -20,11 +20,13 @@ pub fn next_action(state: &SiteState) -> Option<Action>
     next_from(state, &mut cursor)
 }
 
-/// The next action, sought from where a cursor stands. None exactly in Idle and Moved. It takes no memory.
+/// The next action, sought from where a cursor stands, which then stands where it was found. None exactly in Idle and
+/// Moved. It takes no memory.
 pub fn next_from(state: &SiteState, cursor: &mut Cursor) -> Option<Action>
     requires { IsCursorOf state.now.a.now.shape state.now.b.now.shape state.now.phase.now cursor.old }
     ensures next { result ≡ next_of state.now.a.now.shape state.now.b.now.shape state.now.phase.now }
     ensures cursor { IsCursorOf state.now.a.now.shape state.now.b.now.shape state.now.phase.now cursor.new }
+    ensures moves { MovesCursor state.now.a.now.shape state.now.b.now.shape state.now.phase.now cursor.old cursor.new }
 {
     match state.phase {
         Phase::Idle => None,
@@ -39,6 +41,7 @@ fn next_step(source: &Holding, target: &Holding, names: &Names, cursor: &mut Cur
     requires { IsCursor source.now.shape target.now.shape names.now cursor.old }
     ensures step { result ≡ step_of source.now.shape target.now.shape names.now }
     ensures cursor { IsCursor source.now.shape target.now.shape names.now cursor.new }
+    ensures moves { GoesOn source.now.shape names.now cursor.old cursor.new result }
 {
     let spot = first_to_copy(source, target, names, cursor.name, cursor.chunk);
     cursor.name = spot.name;

@@ -1,8 +1,8 @@
 // The searches for the next action.
-ghost use Rattle.std.specs.Prelude.{◌≡◌, ℕ, ◌<◌, ◌≤◌, false, List, [], not, length, slice_get, slice_index_or, Option};
+ghost use Rattle.std.specs.Prelude.{◌≡◌, ℕ, ◌<◌, ◌≤◌, false, List, [], not, length, slice_get, slice_index_or, Option, IfSome};
 ghost use Rattle.std.specs.FinMap as fin_map;
 ghost use Rattle.site_forms.specs.Sites.{HoldsFile, HoldsChunk};
-ghost use Rattle.site_core.specs.Cursors.{CopiedBefore, HoldsBefore, FindsLacking, HeldBefore, LackedBefore};
+ghost use Rattle.site_core.specs.Cursors.{CopiedBefore, HoldsBefore, FindsLacking, HeldBefore, IsPast, LackedBefore, StandsThere};
 ghost use Rattle.site_core.specs.Steps.{list_of, chunks_to_copy};
 
 use site_forms::Names;
@@ -47,7 +47,8 @@ pub(crate) fn lacking_of(
     from: u32,
 ) -> Option<Lacking>
     requires { HoldsBefore target.now.shape (list_of source.now.shape name.now) from }
-    ensures { FindsLacking source.now.shape target.now.shape name.now result }
+    ensures finds { FindsLacking source.now.shape target.now.shape name.now result }
+    ensures from { IfSome result (λ found. from ≤ found.place) }
 {
     if target.find(name).is_some() {
         return None;
@@ -79,6 +80,8 @@ pub(crate) fn first_to_copy(
     requires { CopiedBefore source.now.shape target.now.shape names.now name chunk }
     ensures chunk { result.chunk ≡ slice_get (chunks_to_copy source.now.shape target.now.shape names.now) 0 }
     ensures before { CopiedBefore source.now.shape target.now.shape names.now result.name result.place }
+    ensures past { IsPast name chunk result.name result.place }
+    ensures there { StandsThere source.now.shape names.now result.name result.place result.chunk }
 {
     let count = names.len();
     let mut from = chunk;
@@ -94,7 +97,7 @@ pub(crate) fn first_to_copy(
     }
     Spot {
         name: count,
-        place: 0,
+        place: from,
         chunk: None,
     }
 }
@@ -104,6 +107,7 @@ pub(crate) fn first_lacked(target: &Holding, names: &Names, from: u32) -> u32
     requires within { from ≤ length names.now }
     requires held { HeldBefore target.now.shape names.now from }
     ensures within { result ≤ length names.now }
+    ensures from { from ≤ result }
     ensures held { HeldBefore target.now.shape names.now result }
     ensures lacks { result < length names.now → fin_map.contains_key target.now.shape.files (slice_index_or names.now result []) ≡ false }
 {
@@ -121,6 +125,7 @@ pub(crate) fn first_held(source: &Holding, names: &Names, from: u32) -> u32
     requires within { from ≤ length names.now }
     requires lacked { LackedBefore source.now.shape names.now from }
     ensures within { result ≤ length names.now }
+    ensures from { from ≤ result }
     ensures lacked { LackedBefore source.now.shape names.now result }
     ensures holds { result < length names.now → HoldsFile source.now.shape (slice_index_or names.now result []) }
 {
