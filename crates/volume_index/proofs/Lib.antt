@@ -1,5 +1,6 @@
 pub mod Alls
 pub mod FileReads
+pub mod FirstLimits
 pub mod IndexReads
 pub mod Indexing
 pub mod Joins
@@ -10,6 +11,7 @@ pub mod MapValues
 pub mod Marks
 pub mod Nothing
 pub mod Orders
+pub mod Orphans
 pub mod Ranks
 pub mod Sets
 pub mod Shapes

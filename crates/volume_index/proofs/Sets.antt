@@ -19,7 +19,7 @@ keys_of_pairs : (names : List (List ℕ)) → each (λ (e : List ℕ × Unit {0}
 keys_of_pairs [] = refl
 keys_of_pairs (name ∷ names) = ap (λ (l : List (List ℕ)). name ∷ l) (keys_of_pairs names)
 
-ties_any : (q : List ℕ) (names : List (List ℕ)) → list_any (eq_by_cmp bytes_cmp q) names ≡ is_listed names q
+pub ties_any : (q : List ℕ) (names : List (List ℕ)) → list_any (eq_by_cmp bytes_cmp q) names ≡ is_listed names q
 ties_any q [] = refl
 ties_any q (name ∷ names) = λ i. sym (texts_ties q name) i || ties_any q names i
 

@@ -1,5 +1,6 @@
 pub mod ChunkTables
 pub mod FileTables
+pub mod FirstLimits
 pub mod HoldingCalls
 pub mod HoldingValues
 pub mod IndexInside

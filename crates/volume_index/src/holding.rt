@@ -1,16 +1,18 @@
 // What a volume holds.
-ghost use Rattle.std.specs.Prelude.{◌≡◌, ◌+◌, ◌<◌, ◌≤◌, List, ℕ, true, false, length, slice_get, Some, IfOk, OnOk, OnErr, IsOk};
+ghost use Rattle.std.specs.Prelude.{◌≡◌, ◌+◌, ◌<◌, ◌≤◌, List, ℕ, true, false, length, not, slice_get, Some, IfOk, OnOk, OnErr, IsOk};
 ghost use Rattle.std.specs.FinMap as fin_map;
+ghost use Rattle.std.specs.List.{list_all, filter};
+ghost use Rattle.volume_index.specs.FirstLimits.{first_limit};
 ghost use Rattle.std.specs.Option.{option_map};
 ghost use Rattle.std.specs.String.{string_bytes};
 ghost use Rattle.file_names.specs.FileNames.{IsFileName};
-ghost use Rattle.site_forms.specs.Volumes.{used, with_chunk, with_file, without_file, without_chunk, may_add_file, may_drop_chunk};
+ghost use Rattle.site_forms.specs.Volumes.{distinct_count, used, with_chunk, with_file, without_file, without_chunk, may_add_file, may_drop_chunk};
 ghost use Rattle.volume_index.specs.declared.index.Extent.{Extent};
 ghost use Rattle.volume_index.specs.Indexes.{IsSameHolding};
 ghost use Rattle.volume_index.specs.HoldingCalls.{IsFilePlace};
 ghost use Rattle.volume_index.specs.HoldingValues.{KeepsShape, held_bytes, orphans};
 
-use crate::index::{Extent, Index};
+use crate::index::{Extent, Index, Limit};
 use seed_model::NoMemory;
 use std::marker::Model;
 
@@ -155,6 +157,19 @@ impl Holding {
         self.index.add_chunk(name, place, len)
     }
 
+    /// The limit of a recipe that a file more would break first; none exactly where it keeps them all. Of its list these
+    /// chunks are held, and so many others are lacking.
+    pub fn first_limit(&mut self, held: &[[u8; 32]], lacking: u32) -> Option<Limit>
+        requires held { list_all (fin_map.contains_key self.old.shape.chunks) held.now ≡ true }
+        requires short { length held.now ≤ 524279 }
+        requires few { lacking ≤ 524279 }
+        ensures same { self.new ≡ self.old }
+        ensures first { (list : List (List ℕ)) → filter (fin_map.contains_key self.old.shape.chunks) list ≡ held.now → distinct_count (filter (λ n. not (fin_map.contains_key self.old.shape.chunks n)) list) ≡ lacking
+            → result ≡ first_limit self.old.shape list }
+    {
+        self.index.first_limit(held, lacking)
+    }
+
     /// Adds a file that may be added.
     pub fn add_file(&mut self, name: String, chunks: Vec<[u8; 32]>) -> Result<(), NoMemory>
         requires { may_add_file (λ n. n) 0 self.old.shape (string_bytes name) chunks.items ≡ true }
@@ -166,6 +181,15 @@ impl Holding {
         ensures succeeds { 1 ≤ self.old.file_room → IsOk result }
     {
         self.index.add_file(name, chunks)
+    }
+
+    /// How many chunks no file would use without the file at a place.
+    pub fn freed_by(&mut self, place: u32) -> u64
+        requires { place < fin_map.len self.old.shape.files }
+        ensures same { self.new ≡ self.old }
+        ensures count { (name : List ℕ) → slice_get (fin_map.keys self.old.shape.files) place ≡ Some name → result ≡ length (orphans (without_file self.old.shape name)) }
+    {
+        self.index.freed_by(place)
     }
 
     /// Takes the file at a place out.

@@ -1,10 +1,12 @@
 // The files and chunks of a volume, and how often each chunk is used.
-ghost use Rattle.std.specs.Prelude.{◌≡◌, ◌&&◌, ◌+◌, ◌<◌, ◌≤◌, List, ℕ, true, false, nat_le, length, slice_get, Some, OnOk, OnErr, IsOk};
+ghost use Rattle.std.specs.Prelude.{◌≡◌, ◌&&◌, ◌+◌, ◌<◌, ◌≤◌, List, ℕ, true, false, nat_le, length, not, slice_get, Some, OnOk, OnErr, IsOk};
 ghost use Rattle.std.specs.FinMap as fin_map;
+ghost use Rattle.std.specs.List.{list_all, filter};
+ghost use Rattle.volume_index.specs.FirstLimits.{first_limit, first_broken};
 ghost use Rattle.std.specs.Option.{option_map};
 ghost use Rattle.std.specs.String.{string_bytes};
 ghost use Rattle.file_names.specs.FileNames.{IsFileName};
-ghost use Rattle.site_forms.specs.Volumes.{empty_volume, used, with_chunk, with_file, without_file, without_chunk, may_add_file, may_drop_chunk};
+ghost use Rattle.site_forms.specs.Volumes.{distinct_count, empty_volume, used, with_chunk, with_file, without_file, without_chunk, may_add_file, may_drop_chunk};
 ghost use Rattle.volume_index.specs.declared.index.Extent.{Extent};
 ghost use Rattle.volume_index.specs.HoldingCalls.{IsFilePlace};
 ghost use Rattle.volume_index.specs.Indexes.{IsSameIndex};
@@ -27,6 +29,17 @@ pub struct Extent {
     pub at: u64,
     /// How many there are, from 1 to 1,048,576.
     pub len: u32,
+}
+
+/// A limit that the files of a volume keep.
+#[derive(Clone, Copy, Debug, PartialEq, Eq)]
+pub enum Limit {
+    /// Of files.
+    Files,
+    /// Of chunks that files use.
+    Chunks,
+    /// Of pairs of a file and a chunk that it uses.
+    Pairs,
 }
 
 /// Files and chunks by name, with the numbers that their limits speak of.
@@ -220,6 +233,23 @@ impl Index {
         )
     }
 
+    /// The limit of a recipe that a file more would break first; none exactly where it keeps them all. Of its list these
+    /// chunks are held, and so many others are lacking.
+    pub fn first_limit(&mut self, held: &[[u8; 32]], lacking: u32) -> Option<Limit>
+        requires held { list_all (fin_map.contains_key self.old.shape.chunks) held.now ≡ true }
+        requires short { length held.now ≤ 524279 }
+        requires few { lacking ≤ 524279 }
+        ensures same { self.new ≡ self.old }
+        ensures first { (list : List (List ℕ)) → filter (fin_map.contains_key self.old.shape.chunks) list ≡ held.now → distinct_count (filter (λ n. not (fin_map.contains_key self.old.shape.chunks n)) list) ≡ lacking
+            → result ≡ first_limit self.old.shape list }
+    {
+        let counts = self.chunks.change_users(held, 0, Change::Keep);
+        let files = self.files.len() + 1;
+        let used = self.used + counts.matching + lacking;
+        let pairs = self.pairs + counts.distinct + lacking;
+        first_broken(files, used, pairs)
+    }
+
     /// Adds a file that may be added.
     pub fn add_file(&mut self, name: String, chunks: Vec<[u8; 32]>) -> Result<(), NoMemory>
         requires { may_add_file (λ n. n) 0 self.old.shape (string_bytes name) chunks.items ≡ true }
@@ -254,6 +284,18 @@ impl Index {
         self.used -= counts.matching;
         self.pairs -= counts.distinct;
         self.first = self.chunks.first_without(list, self.first);
+    }
+
+    /// How many chunks no file would use without the file at a place.
+    pub fn freed_by(&mut self, place: u32) -> u64
+        requires { place < fin_map.len self.old.shape.files }
+        ensures same { self.new ≡ self.old }
+        ensures count { (name : List ℕ) → slice_get (fin_map.keys self.old.shape.files) place ≡ Some name → result ≡ length (orphans (without_file self.old.shape name)) }
+    {
+        let list = self.files.chunks_at(place as usize);
+        let counts = self.chunks.change_users(list, 1, Change::Keep);
+        let unused = self.chunks.len() as u64 - u64::from(self.used);
+        unused + u64::from(counts.matching)
     }
 
     /// Whether a chunk may be dropped: it is held, and no file uses it.
@@ -299,4 +341,20 @@ fn fits(files: usize, used: u32, pairs: u32) -> bool
     ensures { result ≡ (nat_le files MOST_FILES && (nat_le used MOST_CHUNKS && nat_le pairs MOST_PAIRS)) }
 {
     files <= MOST_FILES as usize && used <= MOST_CHUNKS && pairs <= MOST_PAIRS
+}
+
+// The first limit that so many files, chunks that they use and pairs break.
+fn first_broken(files: usize, used: u32, pairs: u32) -> Option<Limit>
+    ensures { result ≡ first_broken files used pairs }
+{
+    if files > MOST_FILES as usize {
+        return Some(Limit::Files);
+    }
+    if MOST_CHUNKS < used {
+        return Some(Limit::Chunks);
+    }
+    if MOST_PAIRS < pairs {
+        return Some(Limit::Pairs);
+    }
+    None
 }

@@ -5,6 +5,7 @@ mod chunk_table;
 mod file_table;
 pub mod holding;
 pub mod index;
+pub mod laws;
 
 pub use holding::Holding;
-pub use index::{Extent, Index};
+pub use index::{Extent, Index, Limit};
