@@ -60,3 +60,11 @@ bad_word place = record { number = 10; words = decimal place ∷ [] }
 -- 11: more files than those of which every set is tried
 abbrev pub too_many_files : ℕ → Refusal
 too_many_files files = record { number = 11; words = decimal files ∷ [] }
+
+-- 18: the document has no plan
+abbrev pub no_plan : Refusal
+no_plan = record { number = 18; words = [] }
+
+-- 27: the recipes are not one but for the order of their files and chunks
+abbrev pub other_recipe : Refusal
+other_recipe = record { number = 27; words = [] }

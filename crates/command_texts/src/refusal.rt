@@ -22,6 +22,10 @@ pub enum Refusal<'w> {
     BadWord { place: u32 },
     /// There are more files than those of which every set is tried.
     TooManyFiles { files: u32 },
+    /// The document has no plan.
+    NoPlan,
+    /// The recipes are not one but for the order of their files and chunks.
+    OtherRecipe,
 }
 
 /// The refusal's number.
@@ -35,6 +39,8 @@ pub(crate) fn number_of(refusal: &Refusal) -> u8
         Refusal::NoRecipe(error) => fault_number(error),
         Refusal::BadWord { .. } => 10,
         Refusal::TooManyFiles { .. } => 11,
+        Refusal::NoPlan => 18,
+        Refusal::OtherRecipe => 27,
     }
 }
 
@@ -65,6 +71,8 @@ pub(crate) fn text_of(alloc: Global, refusal: &Refusal) -> Result<String, NoMemo
         Refusal::NoRecipe(error) => fault_text(alloc, error),
         Refusal::BadWord { place } => Ok(format!(in alloc; "refused {number} {place}\n")?),
         Refusal::TooManyFiles { files } => Ok(format!(in alloc; "refused {number} {files}\n")?),
+        Refusal::NoPlan => Ok(format!(in alloc; "refused {number}\n")?),
+        Refusal::OtherRecipe => Ok(format!(in alloc; "refused {number}\n")?),
     }
 }
 

@@ -9,7 +9,7 @@ use Rattle.goseed_words.specs.declared.amount.Amount.TheVariants.{Bytes, Percent
 use Rattle.goseed_words.specs.declared.order.WordError.{WordError}
 use Rattle.goseed_words.specs.declared.order.WordError.TheVariants.{Usage, BadWord}
 use Rattle.goseed_words.specs.Amounts.{SpellsAmount}
-use Rattle.goseed_words.specs.Commands.{Form, Kind, Reads, Creates, ASet, AnAmount, ANumber, ACount, Value, Says, Command, Best, Weigh, Check, Relax, Plan, Pinned, Gen, Greedy, Gap, row}
+use Rattle.goseed_words.specs.Commands.{Form, Kind, Reads, Creates, ASet, AnAmount, ANumber, ACount, Value, Says, Command, Best, Weigh, Check, Relax, Plan, Pinned, Gen, Greedy, Gap, Sort, Carry, row}
 use Rattle.goseed_words.specs.Asked.{Values, Asked, SayAll, Asks, HasOperand, Fits, IsFirstBad}
 use Rattle.goseed_words.specs.Orders.{asked_of, IsWordFault, OneMeaning}
 use Rattle.goseed_words.proofs.AmountLemmas.{no_percent}
@@ -26,6 +26,8 @@ named name =
     else if bytes_eq name (row Gen).name then Some Gen
     else if bytes_eq name (row Greedy).name then Some Greedy
     else if bytes_eq name (row Gap).name then Some Gap
+    else if bytes_eq name (row Sort).name then Some Sort
+    else if bytes_eq name (row Carry).name then Some Carry
     else None
 
 -- it is the command: names are apart
@@ -40,6 +42,8 @@ found Pinned = refl
 found Gen = refl
 found Greedy = refl
 found Gap = refl
+found Sort = refl
+found Carry = refl
 
 one_command : (a b : Command) → (row a).name ≡ (row b).name → a ≡ b
 one_command a b same = cc (sym (found a) ∙ (ap named same ∙ found b))

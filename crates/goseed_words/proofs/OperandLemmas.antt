@@ -22,3 +22,20 @@ pub second_read : (first form : Form) (kinds : List Kind) (words : List (List �
 second_read first form kinds (word ∷ next ∷ words) values say = inr (inl (refl, say.1.0))
 second_read first form kinds (word ∷ []) values say = absurd say.1
 second_read first form kinds [] values say = absurd say
+
+-- one whose third operand is read
+pub third_read : (first second form : Form) (kinds : List Kind) (words : List (List ℕ)) (values : Values (Reads first ∷ Reads second ∷ Reads form ∷ kinds))
+    → SayAll (Reads first ∷ Reads second ∷ Reads form ∷ kinds) words values → HasOperand (Reads first ∷ Reads second ∷ Reads form ∷ kinds) words (Reads form) values.1.1.0
+third_read first second form kinds (word ∷ next ∷ third ∷ words) values say = inr (inr (inl (refl, say.1.1.0)))
+third_read first second form kinds (word ∷ next ∷ []) values say = absurd say.1.1
+third_read first second form kinds (word ∷ []) values say = absurd say.1
+third_read first second form kinds [] values say = absurd say
+
+-- one whose fourth operand is created
+pub fourth_created : (first second third : Form) (kinds : List Kind) (words : List (List ℕ)) (values : Values (Reads first ∷ Reads second ∷ Reads third ∷ Creates ∷ kinds))
+    → SayAll (Reads first ∷ Reads second ∷ Reads third ∷ Creates ∷ kinds) words values → HasOperand (Reads first ∷ Reads second ∷ Reads third ∷ Creates ∷ kinds) words Creates values.1.1.1.0
+fourth_created first second third kinds (word ∷ next ∷ more ∷ last ∷ words) values say = inr (inr (inr (inl (refl, say.1.1.1.0))))
+fourth_created first second third kinds (word ∷ next ∷ more ∷ []) values say = absurd say.1.1.1
+fourth_created first second third kinds (word ∷ next ∷ []) values say = absurd say.1.1
+fourth_created first second third kinds (word ∷ []) values say = absurd say.1
+fourth_created first second third kinds [] values say = absurd say

@@ -59,6 +59,26 @@ apart_two form kinds read created words other no_more none name f is_created = �
     first_read (inr (inl second)) = cc (ap creates second.0)
     first_read (inr (inr more)) = absurd (none_of reads (Reads f) kinds words name refl none more)
 
+-- a command that reads its first three operands and creates its fourth and last
+pub apart_three : (one two three : Form) (first second third created : List ℕ) → first ≢ created → second ≢ created → third ≢ created → (name : List ℕ) (f : Form)
+    → HasOperand (Reads one ∷ Reads two ∷ Reads three ∷ Creates ∷ []) (first ∷ second ∷ third ∷ created ∷ []) Creates name
+    → ¬ HasOperand (Reads one ∷ Reads two ∷ Reads three ∷ Creates ∷ []) (first ∷ second ∷ third ∷ created ∷ []) (Reads f) name
+apart_three one two three first second third created not_first not_second not_third name f is_created = none_read
+  where
+    fourth_created : HasOperand (Reads one ∷ Reads two ∷ Reads three ∷ Creates ∷ []) (first ∷ second ∷ third ∷ created ∷ []) Creates name → created ≡ name
+    fourth_created (inl here) = cc (ap creates here.0)
+    fourth_created (inr (inl here)) = cc (ap creates here.0)
+    fourth_created (inr (inr (inl here))) = cc (ap creates here.0)
+    fourth_created (inr (inr (inr (inl here)))) = here.1
+    fourth_created (inr (inr (inr (inr more)))) = absurd more
+
+    none_read : ¬ HasOperand (Reads one ∷ Reads two ∷ Reads three ∷ Creates ∷ []) (first ∷ second ∷ third ∷ created ∷ []) (Reads f) name
+    none_read (inl here) = not_first (here.1 ∙ sym (fourth_created is_created))
+    none_read (inr (inl here)) = not_second (here.1 ∙ sym (fourth_created is_created))
+    none_read (inr (inr (inl here))) = not_third (here.1 ∙ sym (fourth_created is_created))
+    none_read (inr (inr (inr (inl here)))) = cc (ap creates here.0)
+    none_read (inr (inr (inr (inr more)))) = more
+
 -- a command that creates no operand, with as many words as it has operands
 abbrev pub reading_row : (command : Command) (operands : List (List ℕ)) → length operands ≡ length (row command).operands → list_any creates (row command).operands ≡ false
     → Fits ((row command).name ∷ operands) command
@@ -77,6 +97,17 @@ creating_row command form kinds read created words is many no_more none other = 
   split = refl;
   as_many = many;
   apart = rw is (apart_two form kinds read created words other no_more none);
+}
+
+-- one that reads its first three operands and creates its fourth and last, another than each of them
+abbrev pub creating_last_row : (command : Command) (one two three : Form) (first second third created : List ℕ)
+    → (row command).operands ≡ Reads one ∷ Reads two ∷ Reads three ∷ Creates ∷ [] → first ≢ created → second ≢ created → third ≢ created
+    → Fits ((row command).name ∷ first ∷ second ∷ third ∷ created ∷ []) command
+creating_last_row command one two three first second third created is not_first not_second not_third = record {
+  operands = first ∷ second ∷ third ∷ created ∷ [];
+  split = refl;
+  as_many = rw is refl;
+  apart = rw is (apart_three one two three first second third created not_first not_second not_third);
 }
 
 -- the words of a command, from its name and its operands

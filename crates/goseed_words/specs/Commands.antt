@@ -67,6 +67,8 @@ pub data Command : Type 0 where
   Gen : Command
   Greedy : Command
   Gap : Command
+  Sort : Command
+  Carry : Command
 
 -- a command's name and operands, the names that it creates whatever its operands are, and whether it uses the site
 pub record Row : Type 0 where
@@ -85,3 +87,5 @@ row Pinned = record { name = codes "pinned"; operands = Reads Recipe ∷ Creates
 row Gen = record { name = codes "gen"; operands = ANumber 65535 ∷ ACount 16383 ∷ []; creates = codes "gen.csv" ∷ codes "gen.doc" ∷ []; uses_site = false }
 row Greedy = record { name = codes "greedy"; operands = Reads Recipe ∷ AnAmount ∷ AnAmount ∷ []; creates = []; uses_site = false }
 row Gap = record { name = codes "gap"; operands = Reads Recipe ∷ Reads Certificate ∷ []; creates = []; uses_site = false }
+row Sort = record { name = codes "sort"; operands = Reads Recipe ∷ Creates ∷ []; creates = []; uses_site = false }
+row Carry = record { name = codes "carry"; operands = Reads Recipe ∷ Reads Certificate ∷ Reads Recipe ∷ Creates ∷ []; creates = []; uses_site = false }

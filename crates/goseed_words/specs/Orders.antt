@@ -5,7 +5,7 @@ use Rattle.goseed_words.specs.declared.order.Order.{Order}
 use Rattle.goseed_words.specs.declared.order.Order.TheVariants as order
 use Rattle.goseed_words.specs.declared.order.WordError.{WordError}
 use Rattle.goseed_words.specs.declared.order.WordError.TheVariants.{Usage, BadWord}
-use Rattle.goseed_words.specs.Commands.{Command, Best, Weigh, Check, Relax, Plan, Pinned, Gen, Greedy, Gap}
+use Rattle.goseed_words.specs.Commands.{Command, Best, Weigh, Check, Relax, Plan, Pinned, Gen, Greedy, Gap, Sort, Carry}
 use Rattle.goseed_words.specs.Asked.{Asked, Asks, Fits, HasBadWord, asking}
 
 -- the words' bytes
@@ -23,6 +23,8 @@ asked_of (order.Pinned recipe document target slack nodes go stay) = asking Pinn
 asked_of (order.Gen number files) = asking Gen number files
 asked_of (order.Greedy recipe target slack) = asking Greedy recipe.now target slack
 asked_of (order.Gap recipe certificate) = asking Gap recipe.now certificate.now
+asked_of (order.Sort recipe out) = asking Sort recipe.now out.now
+asked_of (order.Carry recipe document other out) = asking Carry recipe.now document.now other.now out.now
 
 -- usage: no command fits; a bad word: one fits, and this is the place of the first word that says nothing of its kind
 abbrev pub IsWordFault : List (List ℕ) → WordError → Type 0

@@ -24,6 +24,22 @@ pub(crate) fn three<'w>(words: &'w [String]) -> Option<(&'w str, &'w str, &'w st
     Some((first.as_str(), second.as_str(), third.as_str()))
 }
 
+/// The words, where they are four.
+pub(crate) fn four<'w>(words: &'w [String]) -> Option<(&'w str, &'w str, &'w str, &'w str)>
+    ensures found { IfSome result (λ four. texts words.now ≡ four.0.now ∷ four.1.now ∷ four.2.now ∷ four.3.now ∷ []) }
+    ensures none { IfNone result (length words.now ≢ 4) }
+{
+    let [first, second, third, fourth] = words else {
+        return None;
+    };
+    Some((
+        first.as_str(),
+        second.as_str(),
+        third.as_str(),
+        fourth.as_str(),
+    ))
+}
+
 /// The words, where they are five.
 pub(crate) fn five<'w>(words: &'w [String]) -> Option<(&'w str, &'w str, &'w str, &'w str, &'w str)>
     ensures found { IfSome result (λ five. texts words.now ≡ five.0.now ∷ five.1.now ∷ five.2.now ∷ five.3.now ∷ five.4.now ∷ []) }

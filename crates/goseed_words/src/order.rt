@@ -7,7 +7,7 @@ ghost use Rattle.goseed_words.specs.Orders.{asked_of, texts, Means};
 ghost use Rattle.seed_text.specs.SetWords.{IsSetWord};
 
 use crate::amount::{Amount, amount_of};
-use crate::operands::{five, seven, three, two};
+use crate::operands::{five, four, seven, three, two};
 use seed_model::limits::MOST_FILES;
 use seed_model::read_number;
 use seed_text::is_set_word;
@@ -82,6 +82,18 @@ pub enum Order<'w> {
         recipe: &'w str,
         certificate: &'w str,
     },
+    /// Write a recipe with its files by falling shared bytes.
+    Sort {
+        recipe: &'w str,
+        out: &'w str,
+    },
+    /// Take a certificate's plan over to a recipe that is the same but for the order of its files and chunks.
+    Carry {
+        recipe: &'w str,
+        document: &'w str,
+        other: &'w str,
+        out: &'w str,
+    },
 }
 
 /// The most branchings of a search, and the greatest number that a recipe is drawn from.
@@ -105,6 +117,8 @@ pub fn order_of<'w>(words: &'w [String]) -> Result<Order<'w>, WordError>
         "gen" => gen_of(operands),
         "greedy" => greedy_of(operands),
         "gap" => gap_of(operands),
+        "sort" => sort_of(operands),
+        "carry" => carry_of(operands),
         _ => Err(WordError::Usage),
     }
 }
@@ -264,6 +278,45 @@ fn gap_of<'w>(operands: &'w [String]) -> Result<Order<'w>, WordError>
     Ok(Order::Gap {
         recipe,
         certificate,
+    })
+}
+
+/// The order `sort` with these operands. A recipe is not written over itself.
+fn sort_of<'w>(operands: &'w [String]) -> Result<Order<'w>, WordError>
+    ensures meaning { Means (codes "sort" ∷ texts operands.now) result }
+    ensures lawful { IfOk result (λ order. IsLawful (asked_of order)) }
+{
+    let Some((recipe, out)) = two(operands) else {
+        return Err(WordError::Usage);
+    };
+    if recipe == out {
+        return Err(WordError::Usage);
+    }
+    Ok(Order::Sort { recipe, out })
+}
+
+/// The order `carry` with these operands. A certificate is written over none of the names that are read.
+fn carry_of<'w>(operands: &'w [String]) -> Result<Order<'w>, WordError>
+    ensures meaning { Means (codes "carry" ∷ texts operands.now) result }
+    ensures lawful { IfOk result (λ order. IsLawful (asked_of order)) }
+{
+    let Some((recipe, document, other, out)) = four(operands) else {
+        return Err(WordError::Usage);
+    };
+    if recipe == out {
+        return Err(WordError::Usage);
+    }
+    if document == out {
+        return Err(WordError::Usage);
+    }
+    if other == out {
+        return Err(WordError::Usage);
+    }
+    Ok(Order::Carry {
+        recipe,
+        document,
+        other,
+        out,
     })
 }
 

@@ -18,3 +18,9 @@ returns-in_ok-format-in-BadWord c = one_word (refusal_of c.args.refusal.now) _ _
 
 pub returns-in_ok-format-in-TooManyFiles : goal.returns-in_ok-format-in-TooManyFiles
 returns-in_ok-format-in-TooManyFiles c = one_word (refusal_of c.args.refusal.now) _ _ _ c.number_of-number.ensures (ap (λ (r : Refusal). (refusal_of r).words) c.in-TooManyFiles.is) c.in_ok-format-in-TooManyFiles.ensures.ok
+
+pub returns-in_ok-format-in-NoPlan : goal.returns-in_ok-format-in-NoPlan
+returns-in_ok-format-in-NoPlan c = no_word (refusal_of c.args.refusal.now) _ _ c.number_of-number.ensures (ap (λ (r : Refusal). (refusal_of r).words) c.in-NoPlan.is) c.in_ok-format-in-NoPlan.ensures.ok
+
+pub returns-in_ok-format-in-OtherRecipe : goal.returns-in_ok-format-in-OtherRecipe
+returns-in_ok-format-in-OtherRecipe c = no_word (refusal_of c.args.refusal.now) _ _ c.number_of-number.ensures (ap (λ (r : Refusal). (refusal_of r).words) c.in-OtherRecipe.is) c.in_ok-format-in-OtherRecipe.ensures.ok

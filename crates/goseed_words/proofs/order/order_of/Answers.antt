@@ -37,3 +37,11 @@ returns-in-greedy-clause-meaning c =
 pub returns-in-gap-clause-meaning : goal.returns-in-gap-clause-meaning
 returns-in-gap-clause-meaning c =
     rw (command_words c.args.words.now c.in-Some.operands.now c.in-Some.command.now (codes "gap") _ c.in-Some.ensures.cases.0 c.as_str.ensures.value c.in-gap.is) c.gap_of.ensures.meaning
+
+pub returns-in-sort-clause-meaning : goal.returns-in-sort-clause-meaning
+returns-in-sort-clause-meaning c =
+    rw (command_words c.args.words.now c.in-Some.operands.now c.in-Some.command.now (codes "sort") _ c.in-Some.ensures.cases.0 c.as_str.ensures.value c.in-sort.is) c.sort_of.ensures.meaning
+
+pub returns-in-carry-clause-meaning : goal.returns-in-carry-clause-meaning
+returns-in-carry-clause-meaning c =
+    rw (command_words c.args.words.now c.in-Some.operands.now c.in-Some.command.now (codes "carry") _ c.in-Some.ensures.cases.0 c.as_str.ensures.value c.in-carry.is) c.carry_of.ensures.meaning
