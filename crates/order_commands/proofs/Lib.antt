@@ -1,0 +1,7 @@
+mod BestCarried
+mod CarryLemmas
+mod CauseLemmas
+mod DeterminedLemmas
+mod OneCarry
+pub mod SortLemmas
+mod ToldLemmas
