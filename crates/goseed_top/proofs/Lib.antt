@@ -1,3 +1,4 @@
 pub mod CommandLemmas
 pub mod PlanningLemmas
+pub mod ReportLemmas
 pub mod RunLemmas

@@ -1,5 +1,5 @@
 -- How a search ends that words ask for.
-use Rattle.std.proofs.Common.{◌≡◌, ◌∙◌, ◌++◌, ℕ, List, Bool, true, false, Option, Some, None, length, refl, sym, subst, inl, inr}
+use Rattle.std.proofs.Common.{◌≡◌, ◌∙◌, ◌++◌, ℕ, List, Bool, true, Option, Some, None, length, refl, sym, subst, inl, inr}
 use Rattle.std.specs.Prelude.{Result, Ok, Err}
 use Rattle.seed_io.specs.Shelf.{Told, OthersStay}
 use Rattle.seed_model.specs.declared.node.Node.{Node}
@@ -20,7 +20,7 @@ use Rattle.planning_commands.specs.Plan.{AsksSearch, PinnedOf, PlanOf, PrintsSea
 use Rattle.planning_commands.specs.Nodes.{SpellsNode}
 use Rattle.planning_commands.specs.Reading.{HoldsRecipe, RecipeEnds}
 use Rattle.planning_commands.specs.Laws.{GiveOne}
-use Rattle.goseed_top.specs.Endings.{Answers, AskedEnds, Checking, Drawing, Ends, Gapping, Hears, MeaningEnds, Prints}
+use Rattle.goseed_top.specs.Endings.{Answers, AskedEnds, Carrying, Checking, Drawing, Ends, Gapping, Hears, MeaningEnds, Prints}
 use Rattle.trial_commands.specs.Gen.{GenEnds, PrintsDrawn, document_name, recipe_name}
 use Rattle.goseed_top.specs.Planning.{Draws, HasDrawn, HasPlanned, Plans}
 
@@ -36,6 +36,7 @@ none_heard : (old : Seen) (words : List (List ℕ)) (status : Status) (text : Li
 none_heard old words status text told (Checking recipe certificate asks heard) = cc (told, heard.silent)
 none_heard old words status text told (Gapping recipe certificate asks heard) = cc (told, heard.silent)
 none_heard old words status text told (Drawing number files asks heard) = cc (told, heard.hears.silent)
+none_heard old words status text told (Carrying recipe document other out asks heard) = cc (told, heard.silent)
 
 -- `gen`
 drawn_left : (number files : ℕ) (old new found left : Told) (status : Status) (text : List ℕ) (sink_tells : Bool) (before after : List ℕ) → ((name : List ℕ) → found name ≡ old name)

@@ -14,6 +14,7 @@ use Rattle.command_endings.specs.Creating.{LeavesOthers}
 use Rattle.command_endings.specs.Worlds.{World, ShelfEnding, Reading, OnShelf, Seen, seen, OverWorld, EndsOver}
 use Rattle.command_endings.proofs.WorldLemmas.{images, over_devices, over_weaker, on_shelf, reads, same_name}
 use Rattle.goseed_top.specs.Endings.{Answers, AskedEnds, Ends, Hears, MayEnd, MeaningEnds, CreatesDrawn, CreatesFront, LeavesPart, PrintsPart, no_order}
+use Rattle.goseed_top.specs.Reports.{OrderAnswers}
 use Rattle.trial_commands.specs.Gen.{GenEnds, HoldsDrawnFront, LeavesDrawn, document_name, recipe_name}
 use Rattle.trial_commands.proofs.GenLemmas.{both_here, ends_with_both, with_both}
 
@@ -34,7 +35,7 @@ ends_error tells honest map disk words error status text mean refuses =
 
 -- the same of how an order ends
 pub means_order : (old new : Seen) (words : List (List ℕ)) (order : Order) (status : Status) (text : List ℕ) → Asks words (asked_of order)
-    → EndsOver old new (AskedEnds (asked_of order)) status text ⊎ ((asked : List (List ℕ)) → Asks asked (asked_of order) → Hears old asked status text) → Answers old new words status text
+    → OrderAnswers old new order status text → Answers old new words status text
 means_order old new words order status text asks (inl over) = inl (means old new words (Ok order) status text asks over)
 means_order old new words order status text asks (inr hears) = inr (hears words asks)
 

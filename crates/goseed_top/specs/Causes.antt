@@ -5,6 +5,7 @@ use Rattle.goseed_words.specs.Orders.{IsWordFault}
 use Rattle.command_texts.specs.declared.status.Status.{Status}
 use Rattle.command_texts.specs.declared.status.Status.TheVariants.{Refused}
 use Rattle.command_endings.specs.Worlds.{World, Seen, OverWorld}
+use Rattle.order_commands.specs.Causes.{OrderCause}
 use Rattle.planning_commands.specs.Causes.{PlanningCause}
 use Rattle.trial_commands.specs.Causes.{TrialCause}
 use Rattle.goseed_top.specs.Endings.{Hears}
@@ -19,6 +20,7 @@ pub data Cause (found : World) (words : List (List ℕ)) (status : Status) : Typ
   Words : WordCause words status → Cause found words status
   Planning : PlanningCause found words status → Cause found words status
   Trying : TrialCause found words status → Cause found words status
+  Ordering : OrderCause found words status → Cause found words status
 
 -- why it answered so over a shelf and a rack: by what they hold, or by what a shelf gave that does not tell its bytes
 abbrev pub CauseOver : Seen → List (List ℕ) → Status → Type 0

@@ -4,13 +4,15 @@ use Rattle.seed_io.specs.Shelf.{Told}
 use Rattle.goseed_words.specs.declared.order.Order.{Order}
 use Rattle.goseed_words.specs.declared.order.WordError.{WordError}
 use Rattle.goseed_words.specs.declared.order.WordError.TheVariants.{Usage, BadWord}
-use Rattle.goseed_words.specs.Commands.{Command, Best, Weigh, Check, Relax, Plan, Pinned, Gen, Greedy, Gap, row}
+use Rattle.goseed_words.specs.Commands.{Command, Best, Weigh, Check, Relax, Plan, Pinned, Gen, Greedy, Gap, Sort, Carry, row}
 use Rattle.goseed_words.specs.Asked.{Asked, Asks, Takes, IsCreated, asking}
 use Rattle.goseed_words.specs.Orders.{Means, asked_of}
 use Rattle.command_texts.specs.declared.status.Status.{Status}
 use Rattle.command_endings.specs.Laws.{ends_with}
 use Rattle.command_endings.specs.Worlds.{World, Ending, Reading, OnShelf, Seen, OverWorld, EndsOver}
 use Rattle.command_texts.specs.Refusals.{Refusal, Refuses, usage, bad_word}
+use Rattle.order_commands.specs.Carry.{HearsCarry}
+use Rattle.order_commands.specs.Endings.{carry_ends, sort_ends}
 use Rattle.planning_commands.specs.Check.{HearsCheck}
 use Rattle.planning_commands.specs.Endings.{best_ends, weigh_ends, check_ends, relax_ends, plan_ends, pinned_ends}
 use Rattle.trial_commands.specs.Endings.{gen_ends, greedy_ends, gap_ends}
@@ -28,6 +30,8 @@ command_ends Pinned = pinned_ends
 command_ends Gen = gen_ends
 command_ends Greedy = greedy_ends
 command_ends Gap = gap_ends
+command_ends Sort = sort_ends
+command_ends Carry = carry_ends
 
 -- how a command with its values ends
 abbrev pub AskedEnds : Asked → Ending
@@ -49,12 +53,13 @@ pub record Ends (words : List (List ℕ)) (found : World) (status : Status) (tex
   pub means : Means words meaning
   pub ends : MeaningEnds meaning found status text left
 
--- the words ask to judge a certificate, of a search of the command's own or not, and the shelf does not tell its bytes: so it ends,
--- whatever the shelf gave of it
+-- the words ask to judge a certificate, to carry its plan or of a search of the command's own or not, and the shelf does not tell its
+-- bytes: so it ends, whatever the shelf gave of it
 pub data Hears (old : Seen) (words : List (List ℕ)) (status : Status) (text : List ℕ) : Type 0 where
   Checking : (recipe certificate : List ℕ) → Asks words (asking Check recipe certificate) → HearsCheck old.tells old.map recipe certificate status text → Hears old words status text
   Gapping : (recipe certificate : List ℕ) → Asks words (asking Gap recipe certificate) → HearsGap old.tells old.map recipe certificate status text → Hears old words status text
   Drawing : (number files : ℕ) → Asks words (asking Gen number files) → HearsDrawn old.tells number files status text → Hears old words status text
+  Carrying : (recipe document other out : List ℕ) → Asks words (asking Carry recipe document other out) → HearsCarry old.tells old.map recipe document other status text → Hears old words status text
 
 -- how a command with these words ends over a shelf and a rack: as what they hold determines it, where the shelf tells its bytes
 abbrev pub Answers : Seen → Seen → List (List ℕ) → Status → List ℕ → Type 0

@@ -2,7 +2,10 @@ pub mod Causes
 pub mod Determined
 pub mod Endings
 pub mod Faults
+pub mod Groups
+pub mod Laws
 pub mod Planning
+pub mod Reports
 pub use Rattle.goseed_words.specs.Amounts
 pub use Rattle.goseed_words.specs.Asked
 pub use Rattle.goseed_words.specs.Commands

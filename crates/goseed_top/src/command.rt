@@ -1,29 +1,24 @@
 // The top call: words to what is printed, answered and left.
 ghost use Rattle.std.specs.Prelude.{◌≡◌, ◌≢◌, ◌<◌, ◌≤◌, ◌⊎◌, ℕ, List, true, false, IfOk};
 ghost use Rattle.fault_count.specs.Counts.{Rose};
-ghost use Rattle.goseed_words.specs.Asked.{Asks, IsCreated, IsLawful, UsesSite};
+ghost use Rattle.goseed_words.specs.Asked.{IsCreated, IsLawful, UsesSite};
 ghost use Rattle.goseed_words.specs.Commands.{row};
 ghost use Rattle.goseed_words.specs.Orders.{asked_of, texts, MeansNoOrder};
-ghost use Rattle.command_endings.specs.Worlds.{EndsOver, seen};
+ghost use Rattle.command_endings.specs.Worlds.{seen};
 ghost use Rattle.goseed_top.specs.Causes.{CauseOver};
-ghost use Rattle.goseed_top.specs.Endings.{Answers, AskedEnds, Hears, LeavesPart, Prints, PrintsPart};
+ghost use Rattle.goseed_top.specs.Endings.{Answers, LeavesPart, Prints, PrintsPart};
 ghost use Rattle.goseed_top.specs.Faults.{HandsOnBoth, faults};
 ghost use Rattle.goseed_top.specs.Planning.{Draws, Plans};
+ghost use Rattle.goseed_top.specs.Reports.{OrderAnswers, OrderKeeps, OrderLeaves};
 
+use crate::groups::{Group, group_of};
+use crate::laws::command_laws;
+use crate::reports::{report_of_ordering, report_of_reading, report_of_search, report_of_trial};
 use command_texts::{Halt, Refusal, Report, Status, or_halt, refused};
 use goseed_words::{Order, WordError, order_of, word_laws};
-use planning_commands::best::best;
-use planning_commands::check::check;
-use planning_commands::plan::{Aim, pinned, plan};
 use planning_commands::planning_laws;
-use planning_commands::relax::relax;
-use planning_commands::weigh::weigh;
 use seed_io::{Shelf, Sink, SinkError};
 use std::alloc::Global;
-use trial_commands::drawing::draw;
-use trial_commands::gap::gap;
-use trial_commands::greedy::greedy;
-use trial_commands::trial_laws;
 use volume_disk::Rack;
 
 /// Carries out the command of these words: reads what it needs from the shelf and the rack, leaves there what it creates,
@@ -79,8 +74,8 @@ pub fn run<F: Shelf, K: Sink, R: Rack>(
     ensures sink_later { K.faults out.old ≤ K.faults out.new }
     ensures rack_later { R.faults rack.old ≤ R.faults rack.new }
 {
+    command_laws();
     planning_laws();
-    trial_laws();
     let report = match report_of(alloc, words, shelf, rack) {
         Ok(report) => report,
         Err(Halt::Outside) => return Status::Outside,
@@ -120,7 +115,6 @@ fn report_of<F: Shelf, R: Rack>(
 }
 
 /// What the command of an order is to print, and how it then ends.
-#[tactic(auto, using(crate::proofs::RunLemmas::leaves_same))]
 fn report_of_order<F: Shelf, R: Rack>(
     alloc: Global,
     order: Order,
@@ -128,72 +122,18 @@ fn report_of_order<F: Shelf, R: Rack>(
     rack: &mut R,
 ) -> Result<Report, Halt>
     requires { IsLawful (asked_of order) }
-    ensures report { IfOk result (λ report. EndsOver (seen (F.tells shelf.old) (F.map shelf.old) (R.honest rack.old) (R.disk rack.old)) (seen (F.tells shelf.old) (F.map shelf.new) (R.honest rack.old) (R.disk rack.new)) (AskedEnds (asked_of order.entry)) report.status report.text.items
-        ⊎ ((words : List (List ℕ)) → Asks words (asked_of order.entry) → Hears (seen (F.tells shelf.old) (F.map shelf.old) (R.honest rack.old) (R.disk rack.old)) words report.status report.text.items)) }
-    ensures left { F.tells shelf.old ≡ true → (words : List (List ℕ)) → Asks words (asked_of order.entry) → LeavesPart (seen (F.tells shelf.old) (F.map shelf.old) (R.honest rack.old) (R.disk rack.old)) (F.map shelf.new) words }
-    ensures same { (words : List (List ℕ)) → Asks words (asked_of order.entry) → ((name : List ℕ) → ¬ IsCreated words name) → F.map shelf.new ≡ F.map shelf.old }
+    ensures report { IfOk result (λ report. OrderAnswers (seen (F.tells shelf.old) (F.map shelf.old) (R.honest rack.old) (R.disk rack.old)) (seen (F.tells shelf.old) (F.map shelf.new) (R.honest rack.old) (R.disk rack.new)) order.entry report.status report.text.items) }
+    ensures left { F.tells shelf.old ≡ true → OrderLeaves (seen (F.tells shelf.old) (F.map shelf.old) (R.honest rack.old) (R.disk rack.old)) (F.map shelf.new) order.entry }
+    ensures same { OrderKeeps (F.map shelf.old) (F.map shelf.new) order.entry }
     ensures off_site { (row (asked_of order.entry).command).uses_site ≡ false → rack.new ≡ rack.old }
     ensures cause { HandsOnBoth ((row (asked_of order.entry).command).uses_site ≡ true) (faults (F.faults shelf.old) (R.faults rack.old)) (faults (F.faults shelf.new) (R.faults rack.new)) result }
     ensures tells { F.tells shelf.new ≡ F.tells shelf.old }
     ensures honest { R.honest rack.new ≡ R.honest rack.old }
 {
-    match order {
-        Order::Best {
-            recipe,
-            target,
-            slack,
-        } => best(alloc, shelf, recipe, target, slack),
-        Order::Weigh { recipe, set } => weigh(alloc, shelf, recipe, set),
-        Order::Check {
-            recipe,
-            certificate,
-        } => check(alloc, shelf, recipe, certificate),
-        Order::Relax {
-            recipe,
-            target,
-            slack,
-            inside,
-            outside,
-        } => relax(alloc, shelf, recipe, target, slack, inside, outside),
-        Order::Plan {
-            recipe,
-            document,
-            target,
-            slack,
-            nodes,
-        } => {
-            let aim = Aim {
-                target,
-                slack,
-                nodes,
-            };
-            plan(alloc, shelf, recipe, document, aim)
-        }
-        Order::Pinned {
-            recipe,
-            document,
-            target,
-            slack,
-            nodes,
-            go,
-            stay,
-        } => {
-            let aim = Aim {
-                target,
-                slack,
-                nodes,
-            };
-            pinned(alloc, shelf, recipe, document, aim, go, stay)
-        }
-        Order::Gen { number, files } => draw(alloc, shelf, number, files),
-        Order::Greedy {
-            recipe,
-            target,
-            slack,
-        } => greedy(alloc, shelf, recipe, target, slack),
-        Order::Gap {
-            recipe,
-            certificate,
-        } => gap(alloc, shelf, recipe, certificate),
+    match group_of(&order) {
+        Group::Reading => report_of_reading(alloc, order, shelf),
+        Group::Searching => report_of_search(alloc, order, shelf),
+        Group::Trying => report_of_trial(alloc, order, shelf),
+        Group::Ordering => report_of_ordering(alloc, order, shelf),
     }
 }

@@ -2,7 +2,9 @@
 #![tactic(auto)]
 
 pub mod command;
+mod groups;
 pub mod laws;
+mod reports;
 
 pub use command::run;
 pub use command_texts::Status;
