@@ -1,31 +1,21 @@
 -- A record added to B, as what the site makes of it.
-use Rattle.std.proofs.Common.{◌≡◌, ◌⊎◌, inl, inr, ℕ, ◌≤◌, List, [], ◌∷◌, length, Bool, true, false, Option, Some, None, refl, sym, ◌∙◌, ap, subst, arith}
-use Rattle.std.specs.Prelude.{Result, Ok, Err, OnOk, unwrap_or}
+use Rattle.std.proofs.Common.{◌≡◌, ℕ, [], ◌∷◌, Bool, false, Some, refl, sym, ◌∙◌, ap, subst, arith}
+use Rattle.std.specs.Prelude.{Result, Ok, Err}
 use Rattle.std.specs.Option.{option_and_then, option_map}
 use Rattle.std.proofs.lemmas.Bool.{true≢false}
-use Rattle.volume_disk.specs.Disk.{Disk, Images, Crash, SameElsewhere}
-use Rattle.volume_disk.specs.Time.{Passes}
-use Rattle.volume_disk.proofs.Moments.{weaker}
-use Rattle.site_forms.specs.Halves.{OneMoreAt}
-use Rattle.site_forms.specs.Views.{State}
+use Rattle.volume_disk.specs.Disk.{Disk, Images}
 use Rattle.site_forms.specs.VolumeRecords.{VolumeRecord, IsVolumeRecord}
-use Rattle.site_forms.specs.Volumes.{Shape, Volume, shape_after, volume_after}
+use Rattle.site_forms.specs.Volumes.{Shape}
 use Rattle.chunk_log.specs.LogValues.{LogValue}
 use Rattle.chunk_volume.specs.declared.errors.VolError.{VolError}
 use Rattle.chunk_volume.specs.declared.errors.VolError.TheVariants as vol
-use Rattle.chunk_volume.specs.Adding.{Adds, AddsRecord, IsAdded, IsSame, IsSpent, IsRefused as IsRefusedVolume, StandsAfter}
-use Rattle.chunk_volume.specs.Room.{KeepsRoom}
-use Rattle.chunk_volume.specs.Standing.{VolumeStands}
+use Rattle.chunk_volume.specs.Adding.{Adds, AddsRecord, IsAdded, IsSame}
 use Rattle.chunk_volume.specs.VolumeValues.{VolumeValue}
-use Rattle.chunk_volume.proofs.Standing.{volume_beside}
 use Rattle.site_core.specs.Cursors.{IsCursorOf}
-use Rattle.site_core.specs.Events.{Append, Shapes, MayAppendTo, after, happens, happens_to}
+use Rattle.site_core.specs.Events.{Shapes, MayAppendTo, happens_to}
 use Rattle.site_core.specs.Events.Append.{ToB}
-use Rattle.site_core.specs.Events.Event.{Appends}
 use Rattle.site_core.specs.Lasting.{IsKept}
-use Rattle.site_core.proofs.Turning.{may_keep}
 use Rattle.seed_mover.specs.declared.errors.SiteError.{SiteError}
-use Rattle.seed_mover.specs.declared.errors.SiteError.TheVariants as site
 use Rattle.seed_mover.specs.declared.site.Site.TheInside.{Inside}
 use Rattle.site_runs.specs.Runs.{AddsTo}
 use Rattle.site_runs.proofs.Adding.{adds_to_b}
@@ -33,7 +23,7 @@ use Rattle.seed_mover.specs.Appending.{AppendsOne}
 use Rattle.seed_mover.specs.Entries.{NotesVolume}
 use Rattle.seed_mover.specs.Errors.{of_volume, refuses}
 use Rattle.seed_mover.specs.Running.{IsAfter, IsSameSite}
-use Rattle.seed_mover.specs.SiteInside.{AreFresh, KeepsSite, view_of}
+use Rattle.seed_mover.specs.SiteInside.{KeepsSite, view_of}
 use Rattle.site_runs.specs.SiteValues.{SiteValue, shapes_in}
 use Rattle.seed_mover.proofs.Folded.{cursor_b, kept_with}
 use Rattle.seed_mover.proofs.Noted.{volume_ok, volume_refused}

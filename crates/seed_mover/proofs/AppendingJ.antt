@@ -1,31 +1,22 @@
 -- A record added to the journal, as what the site makes of it.
-use Rattle.std.proofs.Common.{◌≡◌, ◌⊎◌, inl, inr, ℕ, ◌≤◌, List, [], ◌∷◌, length, Bool, true, false, Option, Some, None, refl, sym, ◌∙◌, ap, subst, arith}
-use Rattle.std.specs.Prelude.{Result, Ok, Err, OnOk, unwrap_or}
+use Rattle.std.proofs.Common.{◌≡◌, ℕ, ◌≤◌, [], ◌∷◌, length, Bool, false, Some, refl, sym, ◌∙◌, ap, subst, arith}
+use Rattle.std.specs.Prelude.{Result, Ok, Err}
 use Rattle.std.specs.Option.{option_and_then, option_map}
 use Rattle.std.proofs.lemmas.Bool.{true≢false}
-use Rattle.volume_disk.specs.Disk.{Disk, Images, Crash, SameElsewhere}
-use Rattle.volume_disk.specs.Time.{Passes}
-use Rattle.volume_disk.proofs.Moments.{weaker}
+use Rattle.volume_disk.specs.Disk.{Disk, Images}
 use Rattle.site_forms.specs.declared.phase.Phase.{Phase}
-use Rattle.site_forms.specs.Halves.{OneMoreAt}
 use Rattle.site_forms.specs.JournalRecords.{JournalRecord, journal_body}
-use Rattle.site_forms.specs.Phases.{phase_after}
-use Rattle.site_forms.specs.Views.{State}
 use Rattle.site_forms.specs.Volumes.{Shape}
 use Rattle.chunk_log.specs.LogValues.{LogValue}
-use Rattle.chunk_volume.proofs.Standing.{volume_beside}
 use Rattle.move_journal.specs.declared.errors.JournalError.{JournalError}
 use Rattle.move_journal.specs.declared.errors.JournalError.TheVariants as journal
 use Rattle.move_journal.specs.Marking.{AddsMark, IsMarked, IsSame, Marks}
 use Rattle.move_journal.specs.JournalValues.{JournalValue}
-use Rattle.move_journal.specs.Standing.{JournalStands}
 use Rattle.site_core.specs.declared.cursor.Cursor.{Cursor}
 use Rattle.site_core.specs.Cursors.{IsCursorOf}
-use Rattle.site_core.specs.Events.{Append, Shapes, MayAppendTo, after, happens, happens_to}
+use Rattle.site_core.specs.Events.{Shapes, MayAppendTo, happens_to}
 use Rattle.site_core.specs.Events.Append.{ToJournal}
-use Rattle.site_core.specs.Events.Event.{Appends}
 use Rattle.site_core.specs.Lasting.{IsKept}
-use Rattle.site_core.proofs.Turning.{may_keep}
 use Rattle.seed_mover.specs.declared.errors.SiteError.{SiteError}
 use Rattle.seed_mover.specs.declared.site.Site.TheInside.{Inside}
 use Rattle.site_runs.specs.Runs.{AddsTo}
@@ -34,7 +25,7 @@ use Rattle.seed_mover.specs.Appending.{AppendsOne}
 use Rattle.seed_mover.specs.Entries.{NotesJournal}
 use Rattle.seed_mover.specs.Errors.{of_journal, refuses}
 use Rattle.seed_mover.specs.Running.{IsAfter, IsSameSite}
-use Rattle.seed_mover.specs.SiteInside.{AreFresh, KeepsSite, view_of}
+use Rattle.seed_mover.specs.SiteInside.{KeepsSite, view_of}
 use Rattle.site_runs.specs.SiteValues.{SiteValue, shapes_in}
 use Rattle.seed_mover.proofs.Folded.{kept_with}
 use Rattle.seed_mover.proofs.Noted.{journal_ok, journal_refused}
@@ -60,10 +51,10 @@ module _ (v : SiteValue) (w : JournalValue) (spent : Bool) (r : JournalRecord) (
   same_with_journal : IsSame v.journal w → spent ≡ false → IsSameSite v (with_journal v w spent)
   same_with_journal same is = record { a = same_itself v.a; b = same_itself v.b; journal = same; spent = is ∙ sym fresh }
 
-  err_journal : (error : JournalError) → Marks v.journal w r (Err error) → NotesJournal spent (Err error) (Err (of_journal error)) → AppendsOne v (with_journal v w spent) (ToJournal r) (Err (of_journal error))
+  err_journal : (error : JournalError) → Marks {T = Unit {0}} v.journal w r (Err error) → NotesJournal spent (Err error) (Err (of_journal error)) → AppendsOne v (with_journal v w spent) (ToJournal r) (Err (of_journal error))
   err_journal journal.RackFault adds notes = (adds.1, notes.1)
   err_journal (journal.DeviceFull device at len) adds notes = (record { full = adds.1; device_is = adds.2; at_is = adds.3; len_is = adds.4 }, same_with_journal adds.5 notes.1)
-  err_journal journal.Memory adds notes = (adds.1, same_with_journal adds.2 notes.1)
+  err_journal journal.Memory adds notes = (λ (fits : length (journal_body r) ≤ v.journal.room). omega (arith, adds.1, fits), same_with_journal adds.2 notes.1)
   err_journal (journal.Damage device at) adds notes = absurd adds
   err_journal journal.Spent adds notes = absurd (true≢false (sym adds.0 ∙ fresh_log))
 

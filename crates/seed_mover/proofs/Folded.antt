@@ -1,15 +1,14 @@
 -- Appends that may be made in memory: what they do to the state that a site stands for.
-use Rattle.std.proofs.Common.{◌≡◌, ◌⊎◌, inl, inr, ⊎_elim, ℕ, List, [], ◌∷◌, true, false, Option, Some, None, refl, sym, ◌∙◌, ap, subst}
+use Rattle.std.proofs.Common.{◌≡◌, inl, inr, Option, Some, None, refl, sym, ◌∙◌, ap, subst}
 use Rattle.std.specs.Prelude.{IsSome, unwrap_or}
-use Rattle.std.specs.Option.{option_and_then, option_map}
+use Rattle.std.specs.Option.{option_map}
 use Rattle.volume_disk.specs.Disk.{Disk}
 use Rattle.site_forms.specs.declared.phase.Phase.{Phase}
 use Rattle.site_forms.specs.declared.phase.Phase.TheVariants.{Idle}
 use Rattle.site_forms.specs.JournalRecords.{JournalRecord}
 use Rattle.site_forms.specs.Phases.{phase_after}
-use Rattle.site_forms.specs.Sites.{shape_of}
 use Rattle.site_forms.specs.Views.{State}
-use Rattle.site_forms.specs.VolumeRecords.{VolumeRecord, IsVolumeRecord}
+use Rattle.site_forms.specs.VolumeRecords.{VolumeRecord}
 use Rattle.site_forms.specs.Volumes.{Shape, shape_after}
 use Rattle.site_core.specs.declared.cursor.Cursor.{Cursor}
 use Rattle.site_core.specs.Cursors.{IsCursorOf}

@@ -1,7 +1,6 @@
 -- Sites that are the same but for their room.
-use Rattle.std.proofs.Common.{◌≡◌, ℕ, ◌≤◌, List, Some, false, refl, sym, ◌∙◌, ap, subst, arith}
+use Rattle.std.proofs.Common.{◌≡◌, ℕ, Some, refl, sym, ◌∙◌, ap, subst, arith}
 use Rattle.volume_disk.specs.Disk.{Disk}
-use Rattle.site_forms.specs.declared.phase.Phase.{Phase}
 use Rattle.site_forms.specs.Views.{State}
 use Rattle.site_forms.specs.Volumes.{Volume}
 use Rattle.chunk_log.specs.LogValues.{LogValue}

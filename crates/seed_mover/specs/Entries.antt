@@ -1,5 +1,5 @@
 -- Records on their way to a volume or to the journal.
-use Rattle.std.specs.Prelude.{◌≡◌, Bool, true, false, Result, Ok, Err}
+use Rattle.std.specs.Prelude.{◌≡◌, Bool, false, Result, Ok, Err}
 use Rattle.std.specs.String.{string_bytes}
 use Rattle.site_forms.specs.JournalRecords.{JournalRecord}
 use Rattle.site_forms.specs.JournalRecords.JournalRecord.{MovedRecord, UndoBeginRecord, UndoneRecord, AcceptedRecord}

@@ -1,8 +1,8 @@
-use Rattle.std.proofs.Common.{◌≡◌, Bool, Result, List, ℕ, sym, ◌∙◌, ap, subst}
+use Rattle.std.proofs.Common.{Result, sym, subst}
 use Rattle.std.specs.String.{string_bytes}
 use Rattle.std.specs.Prelude.{IsSome}
 use Rattle.site_forms.specs.Volumes.{shape_after}
-use Rattle.site_forms.specs.VolumeRecords.VolumeRecord.{ChunkRecord, FileRecord}
+use Rattle.site_forms.specs.VolumeRecords.VolumeRecord.{ChunkRecord}
 use Rattle.chunk_volume.specs.declared.errors.VolError.{VolError}
 use Rattle.chunk_volume.specs.Adding.{AddsRecord}
 use Rattle.seed_mover.specs.declared.entries.Entry.{Entry}
