@@ -1,6 +1,12 @@
+pub mod Acted
 pub mod AppendingA
 pub mod AppendingB
 pub mod AppendingJ
+pub mod Copying
 pub mod Folded
+pub mod Listing
+pub mod ManyActed
+pub mod Marked
+pub mod NextFacts
 pub mod Noted
 pub mod Same

@@ -1,6 +1,9 @@
+pub mod Acting
 pub mod Appending
 pub mod Entries
 pub mod Errors
+pub mod ManyActions
+pub mod Moving
 pub mod Plans
 pub mod Running
 pub mod SiteInside

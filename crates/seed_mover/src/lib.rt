@@ -2,9 +2,11 @@
 //! files. Whatever a crash leaves of a call is the state behind the first records of its plan.
 #![tactic(auto)]
 
+mod acting;
 mod appending;
 mod entries;
 pub mod errors;
+mod moving;
 pub mod site;
 
 pub use errors::SiteError;
