@@ -1,7 +1,6 @@
 -- Chunks that are copied from one volume to the other.
-use Rattle.std.proofs.Common.{◌≡◌, ◌≢◌, ◌⊎◌, inl, inr, ℕ, ◌≤◌, ◌^◌, List, [], length, Bool, true, false, Some, refl, sym, ◌∙◌, ap, subst}
-use Rattle.std.specs.Prelude.{Result, Ok, Err, Vec, unwrap_or}
-use Rattle.std.specs.Option.{option_map}
+use Rattle.std.proofs.Common.{◌≡◌, inl, inr, ℕ, ◌≤◌, ◌^◌, List, [], length, Bool, false, Some, refl, sym, ◌∙◌, ap, subst}
+use Rattle.std.specs.Prelude.{Result, Err, Vec, unwrap_or}
 use Rattle.std.specs.declared.alloc.Global.{Global}
 use Rattle.std.specs.FinMap as map
 use Rattle.sha2.specs.Sha256.{sha256}
@@ -11,12 +10,11 @@ use Rattle.site_forms.specs.Sites.{IsSite}
 use Rattle.site_forms.specs.Views.{State}
 use Rattle.site_forms.specs.VolumeRecords.{IsChunk}
 use Rattle.site_forms.specs.VolumeRecords.VolumeRecord.{ChunkRecord}
-use Rattle.site_forms.specs.Volumes.{Shape, Volume}
+use Rattle.site_forms.specs.Volumes.{Volume}
 use Rattle.chunk_volume.specs.declared.errors.VolError.{VolError}
 use Rattle.chunk_volume.specs.declared.errors.VolError.TheVariants as vol
 use Rattle.chunk_volume.specs.ReadingVolumes.{FindsChunk, HasBytes, ReadsChunk}
 use Rattle.chunk_volume.specs.Standing.{VolumeStands}
-use Rattle.chunk_volume.specs.VolumeValues.{VolumeValue}
 use Rattle.volume_index.specs.HoldingValues.{KeepsShape}
 use Rattle.volume_index.proofs.Alls.{value_has}
 use Rattle.site_core.specs.declared.action.Action.{Action}
@@ -32,14 +30,13 @@ use Rattle.site_runs.proofs.Settled.{shapes_same}
 use Rattle.seed_mover.specs.declared.entries.Side.{Side}
 use Rattle.seed_mover.specs.declared.entries.Side.TheVariants.{A, B}
 use Rattle.seed_mover.specs.declared.errors.SiteError.{SiteError}
-use Rattle.seed_mover.specs.declared.errors.SiteError.TheVariants as site
 use Rattle.seed_mover.specs.declared.site.Site.TheInside.{Inside}
-use Rattle.seed_mover.specs.Acting.{Carries, CarriesOn, IsNext, add_to, copy_to, drop_chunk_from, drop_from, end_at, source_of, with_action}
+use Rattle.seed_mover.specs.Acting.{Carries, CarriesOn, IsNext, add_to, copy_to, drop_chunk_from, drop_from, end_at, source_of}
 use Rattle.seed_mover.specs.Entries.{NotesVolume, append_to}
 use Rattle.seed_mover.specs.Errors.{is_rack_fault, of_volume, refuses}
-use Rattle.seed_mover.specs.Moving.{Acts, CopiesFrom, IsFullFor, act_plan, tells_damage}
+use Rattle.seed_mover.specs.Moving.{CopiesFrom, IsFullFor, act_plan, tells_damage}
 use Rattle.seed_mover.specs.Running.{IsSameSite}
-use Rattle.seed_mover.specs.SiteInside.{KeepsSite, view_of}
+use Rattle.seed_mover.specs.SiteInside.{KeepsSite}
 use Rattle.seed_mover.proofs.NextFacts.{append_told, appends, copy_append}
 use Rattle.seed_mover.proofs.Same.{same_itself, same_journal}
 

@@ -1,5 +1,5 @@
 -- Next actions, one after the other.
-use Rattle.std.proofs.Common.{◌≡◌, ◌⊎◌, inl, inr, ⊎_elim, ℕ, ◌+◌, ◌<◌, ◌≤◌, List, [], ◌∷◌, ◌++◌, length, true, false, Option, Some, None, refl, sym, ◌∙◌, ap, subst, arith}
+use Rattle.std.proofs.Common.{◌≡◌, ◌⊎◌, inl, inr, ⊎_elim, ℕ, ◌+◌, ◌<◌, List, [], ◌∷◌, ◌++◌, length, false, Option, Some, None, refl, sym, ◌∙◌, ap, subst, arith}
 use Rattle.std.specs.Prelude.{Result, Ok, Err}
 use Rattle.std.specs.Option.{option_and_then}
 use Rattle.volume_disk.specs.Disk.{Disk, Images, Crash}
@@ -11,7 +11,7 @@ use Rattle.site_forms.specs.Sites.{shape_of}
 use Rattle.site_forms.specs.Views.{State}
 use Rattle.site_forms.specs.Volumes.{Shape}
 use Rattle.site_core.specs.declared.action.Action.{Action}
-use Rattle.site_core.specs.Events.{Append, IsNextAppend, Shapes, after, append_of, append_with, happens_to, next_action_of}
+use Rattle.site_core.specs.Events.{Append, IsNextAppend, Shapes, after, append_of, happens_to, next_action_of}
 use Rattle.site_core.specs.Events.Event.{Appends}
 use Rattle.site_core.specs.Lasting.{IsFoldedSite, IsKept}
 use Rattle.site_core.specs.Plans.{AreActions, IsFrontOf, Led, after_plan, events_of}
@@ -24,9 +24,8 @@ use Rattle.site_runs.proofs.Fronts.{led_behind}
 use Rattle.site_runs.proofs.RunEnds.{acts_done, acts_refused}
 use Rattle.site_runs.proofs.Runs.{allowed_snoc, run_begins}
 use Rattle.seed_mover.specs.declared.errors.SiteError.{SiteError}
-use Rattle.seed_mover.specs.declared.errors.SiteError.TheVariants.{Spent}
 use Rattle.seed_mover.specs.Errors.{refuses}
-use Rattle.seed_mover.specs.ManyActions.{HasActed, HaveActed, StopsActing, left_in}
+use Rattle.seed_mover.specs.ManyActions.{HaveActed, StopsActing, left_in}
 use Rattle.seed_mover.specs.Moving.{Acts, ActsOn, IsActed, IsOnTheWay, act_plan, plan_of}
 
 some_same : {X : Type 0} (x y : X) → Some x ≡ Some y → x ≡ y
@@ -76,28 +75,8 @@ turned_more v u w n action turned acts =
       left = omega (arith, left, before);
     }
 
-pub turned_all : (v w : SiteValue) (count n : ℕ) → Turned v w n → n ≤ count → (n ≡ count) ⊎ ¬ IsOnTheWay w.journal.phase → HasActed v w count n
-turned_all v w count n turned most ends = record { actions = turned.actions; acted = turned.acted; long = turned.long; most = most; ends = ends; left = turned.left }
-
 pub turned_stops : (v u w : SiteValue) (count n : ℕ) (error : SiteError) → Turned v u n → n < count → IsOnTheWay u.journal.phase → Acts u w (Err error) → StopsActing v w count error
 turned_stops v u w count n error turned few way stops = record { actions = turned.actions; mid = u; acted = turned.acted; fewer = omega (arith, turned.long, few); way = way; stops = stops }
-
--- while files are on the way, an action is left
-left_on_the_way : (a b : Shape) (phase : Phase) → IsOnTheWay phase → 1 ≤ remaining a b phase
-left_on_the_way a b Idle way = absurd way
-left_on_the_way a b (Moving names) way = omega arith
-left_on_the_way a b (Moved names) way = absurd way
-left_on_the_way a b (Undoing names) way = omega arith
-
--- so as many actions as are left come to the end
-pub all_done : (v w : SiteValue) (count n : ℕ) → HasActed v w count n → left_in v ≤ count → ¬ IsOnTheWay w.journal.phase
-all_done v w count n has enough way = ⊎_elim
-    (λ (same : n ≡ count).
-    let some : 1 ≤ left_in w = left_on_the_way w.a.shape w.b.shape w.journal.phase way in
-    let left : left_in w + n ≡ left_in v = has.left in
-    let never : ⊥ = omega (arith, same, some, left, enough) in never)
-    (λ (off : ¬ IsOnTheWay w.journal.phase). off way)
-    has.ends
 
 -- ON THE DISK
 

@@ -1,10 +1,9 @@
 -- What the next action tells, on either side.
-use Rattle.std.proofs.Common.{◌≡◌, ◌⊎◌, inl, inr, ⊎_elim, ℕ, zero, suc, ◌<◌, List, [], ◌∷◌, length, Bool, true, false, Option, Some, None, refl, sym, ◌∙◌, ap, subst, arith}
+use Rattle.std.proofs.Common.{◌≡◌, ◌⊎◌, inl, inr, ⊎_elim, ℕ, zero, suc, ◌<◌, List, [], ◌∷◌, length, Bool, true, false, Some, None, refl, sym, ◌∙◌, ap, arith}
 use Rattle.std.specs.Prelude.{IsSome, slice_index_or, if◌then◌else◌}
 use Rattle.std.specs.FinMap as map
 use Rattle.std.proofs.lemmas.Bool.{true≢false}
 use Rattle.site_forms.specs.declared.phase.Phase.{Phase}
-use Rattle.site_forms.specs.declared.phase.Phase.TheVariants.{Idle, Moving, Moved, Undoing}
 use Rattle.site_forms.specs.Phases.{names_of}
 use Rattle.site_forms.specs.Sites.{HoldsChunk, shape_of}
 use Rattle.site_forms.specs.Views.{State}
@@ -15,14 +14,14 @@ use Rattle.volume_index.specs.HoldingValues.{KeepsShape}
 use Rattle.volume_index.proofs.Alls.{key_has}
 use Rattle.site_core.specs.declared.action.Action.{Action}
 use Rattle.site_core.specs.declared.action.Action.TheVariants.{CopyToB, AddToB, DropFromA, DropChunkA, Moved as RecordMoved, CopyToA, AddToA, DropFromB, DropChunkB, Undone}
-use Rattle.site_core.specs.Events.{Append, CopiesChunk, Shapes, append_with, happens_to, named, shapes_of}
+use Rattle.site_core.specs.Events.{Append, CopiesChunk, Shapes, append_with, happens_to, named}
 use Rattle.site_core.specs.Lasting.{IsKept}
-use Rattle.site_core.specs.Steps.{list_of, next_of}
+use Rattle.site_core.specs.Steps.{list_of}
 use Rattle.site_core.proofs.Acting.{next_acted}
 use Rattle.site_core.proofs.Values.{copied_from_a, copied_from_b}
 use Rattle.seed_mover.specs.declared.entries.Side.{Side}
 use Rattle.seed_mover.specs.declared.entries.Side.TheVariants.{A, B}
-use Rattle.seed_mover.specs.Acting.{IsNext, add_to, copy_to, drop_chunk_from, drop_from, end_at, source_of}
+use Rattle.seed_mover.specs.Acting.{IsNext, add_to, copy_to, drop_chunk_from, drop_from, source_of}
 use Rattle.seed_mover.specs.Entries.{append_to}
 use Rattle.site_runs.specs.SiteValues.{SiteValue, shapes_in}
 use Rattle.seed_mover.proofs.Folded.{shape_folds}

@@ -1,5 +1,5 @@
 -- Actions, whichever way a migration goes.
-use Rattle.std.specs.Prelude.{◌≡◌, ℕ, ⊤, true, List, Some, Result, Ok, Err}
+use Rattle.std.specs.Prelude.{◌≡◌, ℕ, List, Some, Result, Ok, Err}
 use Rattle.volume_disk.specs.Disk.{Disk, Images}
 use Rattle.site_forms.specs.Views.{State}
 use Rattle.site_core.specs.declared.action.Action.{Action}

@@ -36,12 +36,20 @@ impl Site {
             phase: self.journal.phase(),
         };
         let next = next_from(&state, &mut self.cursor);
-        let SiteState { a: _, b: _, phase: _ } = state;
+        let SiteState {
+            a: _,
+            b: _,
+            phase: _,
+        } = state;
         next.unwrap()
     }
 
     /// Carries out the next action of a site that is not spent.
-    pub(crate) fn carry_out<R: Rack>(&mut self, rack: &mut R, action: Action) -> Result<(), SiteError>
+    pub(crate) fn carry_out<R: Rack>(
+        &mut self,
+        rack: &mut R,
+        action: Action,
+    ) -> Result<(), SiteError>
         requires fresh { self.old.spent ≡ false }
         requires next { IsNext self.old action }
         ensures cause { HandsOn RackFault (R.faults rack.old) (R.faults rack.new) result }

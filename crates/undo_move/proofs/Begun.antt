@@ -1,6 +1,6 @@
 -- Phases of an undo, and calls that do nothing.
 use Rattle.std.proofs.Common.{◌≡◌, ℕ, List, [], refl, sym, subst}
-use Rattle.std.specs.Prelude.{Result, Ok}
+use Rattle.std.specs.Prelude.{Ok}
 use Rattle.volume_disk.specs.Disk.{Disk, Images, Crash}
 use Rattle.site_forms.specs.declared.phase.Phase.{Phase}
 use Rattle.site_forms.specs.declared.phase.Phase.TheVariants.{Idle, Moving, Moved, Undoing}

@@ -1,4 +1,3 @@
-use Rattle.std.proofs.Common.{sym, ◌∙◌}
 use Rattle.chunk_volume.proofs.Puts.{place_inside}
 use Rattle.seed_mover.proofs.Listing.{copied_list, held_list, nothing_listed}
 use Rattle.seed_mover.proofs.acting.list_in.Goals as goal

@@ -1,4 +1,4 @@
-use Rattle.std.proofs.Common.{◌≡◌, true, refl, sym, ◌∙◌, subst}
+use Rattle.std.proofs.Common.{refl, sym, ◌∙◌, subst}
 use Rattle.std.proofs.lemmas.Bool.{true≢false}
 use Rattle.seed_mover.specs.declared.errors.SiteError.TheVariants.{NothingOpen, Spent}
 use Rattle.seed_mover.proofs.Acted.{acted_nothing}

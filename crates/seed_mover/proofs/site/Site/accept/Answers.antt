@@ -1,4 +1,4 @@
-use Rattle.std.proofs.Common.{◌≡◌, true, refl, sym, ◌∙◌, ap, subst}
+use Rattle.std.proofs.Common.{refl, sym, ◌∙◌, ap, subst}
 use Rattle.std.proofs.lemmas.Bool.{true≢false}
 use Rattle.site_forms.specs.JournalRecords.JournalRecord.{AcceptedRecord}
 use Rattle.site_runs.specs.SiteValues.{SiteValue}

@@ -1,6 +1,5 @@
-use Rattle.std.proofs.Common.{◌≡◌, ◌<◌, ◌≤◌, inl, inr, ℕ, [], true, false, refl, sym, ◌∙◌, ap, subst, arith}
+use Rattle.std.proofs.Common.{◌≡◌, inr, [], refl, sym, ◌∙◌, ap, subst, arith}
 use Rattle.std.proofs.lemmas.Bool.{true≢false}
-use Rattle.site_forms.specs.declared.phase.Phase.{Phase}
 use Rattle.site_core.specs.Lasting.{IsKept}
 use Rattle.site_core.specs.Plans.{AreActions, after_plan}
 use Rattle.site_runs.specs.SiteValues.{SiteValue, shapes_in}
