@@ -4,9 +4,12 @@ pub mod AppendingB
 pub mod AppendingJ
 pub mod Copying
 pub mod Folded
+pub mod Judging
+pub mod LawfulNames
 pub mod Listing
 pub mod ManyActed
 pub mod Marked
 pub mod NextFacts
 pub mod Noted
+pub mod Opened
 pub mod Same

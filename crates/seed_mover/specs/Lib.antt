@@ -4,6 +4,8 @@ pub mod Entries
 pub mod Errors
 pub mod ManyActions
 pub mod Moving
+pub mod Opening
+pub mod Parts
 pub mod Plans
 pub mod Running
 pub mod SiteInside

@@ -7,6 +7,7 @@ mod appending;
 mod entries;
 pub mod errors;
 mod moving;
+mod opening;
 pub mod site;
 
 pub use errors::SiteError;
