@@ -4,6 +4,7 @@ pub mod AppendingB
 pub mod AppendingJ
 pub mod Copying
 pub mod Folded
+pub mod Got
 pub mod Judging
 pub mod LawfulNames
 pub mod Listing

@@ -7,8 +7,10 @@ use Rattle.site_forms.specs.VolumeRecords.{VolumeRecord}
 use Rattle.site_forms.specs.VolumeRecords.VolumeRecord.{ChunkRecord, FileRecord, DropFileRecord, DropChunkRecord}
 use Rattle.chunk_volume.specs.declared.errors.VolError.{VolError}
 use Rattle.move_journal.specs.declared.errors.JournalError.{JournalError}
+use Rattle.chunk_volume.specs.VolumeValues.{VolumeValue}
 use Rattle.site_core.specs.Events.{Append}
 use Rattle.site_core.specs.Events.Append.{ToA, ToB}
+use Rattle.site_runs.specs.SiteValues.{SiteValue}
 use Rattle.seed_mover.specs.declared.entries.Entry.{Entry}
 use Rattle.seed_mover.specs.declared.entries.Entry.TheVariants.{Chunk, File, DropFile, DropChunk}
 use Rattle.seed_mover.specs.declared.entries.Mark.{Mark}
@@ -34,6 +36,11 @@ record_of_mark Accepted = AcceptedRecord
 abbrev pub append_to : Side → VolumeRecord → Append
 append_to A r = ToA r
 append_to B r = ToB r
+
+-- one of the volumes
+abbrev pub on_side : Side → SiteValue → VolumeValue
+on_side A v = v.a
+on_side B v = v.b
 
 -- what is answered, and whether the site is spent, from what a volume answered
 abbrev pub NotesVolume : Bool → Result (Unit {0}) VolError → Result (Unit {0}) SiteError → Type 0

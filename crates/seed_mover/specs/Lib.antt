@@ -1,11 +1,14 @@
 pub mod Acting
 pub mod Appending
+pub mod Dropping
 pub mod Entries
 pub mod Errors
+pub mod Getting
 pub mod ManyActions
 pub mod Moving
 pub mod Opening
 pub mod Parts
 pub mod Plans
+pub mod Putting
 pub mod Running
 pub mod SiteInside

@@ -8,6 +8,8 @@ mod entries;
 pub mod errors;
 mod moving;
 mod opening;
+mod putting;
+mod reading;
 pub mod site;
 
 pub use errors::SiteError;
