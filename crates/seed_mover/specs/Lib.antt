@@ -1,5 +1,7 @@
 pub mod Acting
 pub mod Appending
+pub mod BeginParts
+pub mod Beginning
 pub mod Dropping
 pub mod Entries
 pub mod Errors
@@ -12,3 +14,4 @@ pub mod Plans
 pub mod Putting
 pub mod Running
 pub mod SiteInside
+pub mod Unused

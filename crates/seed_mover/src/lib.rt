@@ -4,6 +4,7 @@
 
 mod acting;
 mod appending;
+mod beginning;
 mod entries;
 pub mod errors;
 mod moving;
@@ -11,6 +12,7 @@ mod opening;
 mod putting;
 mod reading;
 pub mod site;
+mod unused;
 
 pub use errors::SiteError;
 pub use move_journal::{Names, Phase};
