@@ -155,6 +155,14 @@ impl Log {
         self.end
     }
 
+    /// The greatest size in bytes that the device may grow to.
+    pub fn limit(&self) -> u64
+        ensures limit { result ≡ self.now.limit }
+        ensures most { result ≤ 2 ^ 40 }
+    {
+        self.limit
+    }
+
     /// The device of the log.
     pub fn device(&self) -> u8
         ensures device { result ≡ self.now.device }

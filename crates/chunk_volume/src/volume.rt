@@ -1,5 +1,5 @@
 // Volumes over a log.
-ghost use Rattle.std.specs.Prelude.{◌≡◌, ℕ, ◌^◌, ◌<◌, ◌≤◌, ◌*◌, ◌+◌, true, false, length, slice_get, Some, IfOk, OnOk, IsOk};
+ghost use Rattle.std.specs.Prelude.{◌≡◌, ℕ, List, ◌^◌, ◌<◌, ◌≤◌, ◌*◌, ◌+◌, true, false, length, slice_get, Some, IfOk, OnOk, IsOk};
 ghost use Rattle.fault_count.specs.Counts.{HandsOn};
 ghost use Rattle.file_names.specs.FileNames.{IsFileName};
 ghost use Rattle.sha2.specs.Sha256.{sha256};
@@ -8,7 +8,7 @@ ghost use Rattle.std.specs.String.{string_bytes};
 ghost use Rattle.site_forms.specs.Sites.{HoldsChunk, HoldsFile};
 ghost use Rattle.site_forms.specs.VolumeRecords.{IsChunk};
 ghost use Rattle.site_forms.specs.VolumeRecords.VolumeRecord.{ChunkRecord, FileRecord, DropFileRecord, DropChunkRecord};
-ghost use Rattle.site_forms.specs.Volumes.{Volume as FormVolume, chunk_or, holds_all, keeps_limits, may_add_file, may_drop_chunk};
+ghost use Rattle.site_forms.specs.Volumes.{Volume as FormVolume, chunk_or, holds_all, keeps_limits, may_add_file, may_drop_chunk, without_file};
 ghost use Rattle.device_pieces.specs.Quiet.{Quiet};
 ghost use Rattle.chunk_volume.specs.declared.errors.VolError.TheVariants.{RackFault};
 ghost use Rattle.chunk_volume.specs.Adding.{PutsChunk, PutsFile, DropsFile, DropsChunk, Adds, Compares, ComparesChunk, FindsHeld, IsSame, AddsRecord, PutsChunkOn};
@@ -108,6 +108,14 @@ impl Volume {
         self.log.end()
     }
 
+    /// The greatest size in bytes that each device of the place may grow to.
+    pub fn limit(&self) -> u64
+        ensures limit { result ≡ self.now.log.limit }
+        ensures most { result ≤ 2 ^ 40 }
+    {
+        self.log.limit()
+    }
+
     /// The device of the half in force.
     pub fn device(&self) -> u8
         ensures device { result ≡ self.now.log.device }
@@ -128,6 +136,15 @@ impl Volume {
         ensures { result ≡ slice_get (orphans self.now.shape) 0 }
     {
         self.holding.first_orphan()
+    }
+
+    /// How many chunks no file would use without the file at a place. Takes time for the chunks of this file alone.
+    pub fn freed_by(&mut self, place: u32) -> u64
+        requires { place < fin_map.len self.old.shape.files }
+        ensures same { self.new ≡ self.old }
+        ensures count { (name : List ℕ) → slice_get (fin_map.keys self.old.shape.files) place ≡ Some name → result ≡ length (orphans (without_file self.old.shape name)) }
+    {
+        self.holding.freed_by(place)
     }
 
     /// Makes room for so many more chunks and files, and for records of `body` bytes: the next calls within it never

@@ -68,6 +68,14 @@ impl VolumeLog {
         self.log.end()
     }
 
+    /// The greatest size in bytes that the device may grow to.
+    pub(crate) fn limit(&self) -> u64
+        ensures limit { result ≡ self.now.limit }
+        ensures most { result ≤ 2 ^ 40 }
+    {
+        self.log.limit()
+    }
+
     /// The device of the log.
     pub(crate) fn device(&self) -> u8
         ensures device { result ≡ self.now.device }
