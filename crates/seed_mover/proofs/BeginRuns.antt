@@ -62,7 +62,7 @@ lacks_some shape names never = ⊎_elim (λ all. absurd (never all)) (λ lacks. 
 
 -- NO CHUNK IS LEFT
 
-passed : {X Y : Type 0} (f : X → Option Y) (o : Option X) (y : Y) → option_and_then f o ≡ Some y → (x : X) × (o ≡ Some x) × (f x ≡ Some y)
+pub passed : {X Y : Type 0} (f : X → Option Y) (o : Option X) (y : Y) → option_and_then f o ≡ Some y → (x : X) × (o ≡ Some x) × (f x ≡ Some y)
 passed f None y is = let no : ⊥ = cc in absurd no
 passed f (Some x) y is = (x, refl, is)
 

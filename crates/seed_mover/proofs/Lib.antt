@@ -6,6 +6,9 @@ pub mod BeginReady
 pub mod BeginRuns
 pub mod Chained
 pub mod Copying
+pub mod DropAllowed
+pub mod DropRoom
+pub mod DropRuns
 pub mod Folded
 pub mod Got
 pub mod Judging

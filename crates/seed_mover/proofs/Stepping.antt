@@ -13,7 +13,7 @@ use Rattle.site_core.proofs.Lasting.{all_keep}
 use Rattle.site_runs.specs.Runs.{AddsTo, Runs, RunsFront, SoFar}
 use Rattle.site_runs.specs.SiteValues.{SiteStands, SiteValue}
 use Rattle.site_runs.proofs.Fronts.{front_none, front_of_front, front_whole, led_behind, led_widens, plan_joined}
-use Rattle.site_runs.proofs.RunEnds.{front_refused, runs_one}
+use Rattle.site_runs.proofs.RunEnds.{front_refused, runs_failed, runs_one}
 use Rattle.site_runs.proofs.Runs.{allowed_snoc, run_begins, run_next, run_ok, run_refused, run_widens}
 
 -- two plans that are allowed one behind the other
@@ -85,6 +85,31 @@ module _ {D E : Type 0} (disk : D → Disk) (moment : D → ℕ) (left_since : D
       → ((error : E) → (refuses error) ⊎ (refuses error → ⊥)) → (result : Result T E) → AddsTo disk moment left_since refuses old new t u x result → RunsFront disk moment left_since refuses old new t u s (x ∷ []) result
   front_one old new t u s x is only_now stands may decides result call =
       front_of_runs old new t u s (x ∷ []) result (runs_one disk moment left_since refuses old new t u s x is only_now stands may decides result call)
+
+  -- A WHOLE PLAN, FROM A FRONT OF IT
+
+  pub runs_from : {T : Type 0} (old new : D) (t u w : SiteValue) (s : State) (whole : List Append) (result : Result T E) → Runs disk moment left_since refuses old new u w s whole result → Runs disk moment left_since refuses old new t w s whole result
+  runs_from old new t u w s whole result run = record { plan = run.plan; is = run.is; refused = run.refused; allowed = run.allowed; done = run.done; kept = run.kept; same = run.same; rest = run.rest; moments = run.moments }
+
+  pub runs_of_front : {S T : Type 0} (old new : D) (t u : SiteValue) (s : State) (whole : List Append) (value : S) (told : T) → RunsFront disk moment left_since refuses old new t u s whole (Ok value) → Runs disk moment left_since refuses old new t u s whole (Ok told)
+  runs_of_front old new t u s whole value told run = record {
+    plan = whole;
+    is = inr refl;
+    refused = λ no. absurd no;
+    allowed = subst (λ (p : List Append). AreAllowed s (events_of p)) run.done.0 run.allowed;
+    done = (refl, run.done.1);
+    kept = λ no. absurd no;
+    same = λ no. absurd no;
+    rest = run.rest;
+    moments = subst (λ (p : List Append). Passes moment left_since old new (Led (IsFrontOf p) s)) run.done.0 run.moments;
+  }
+
+  -- where nothing but a fault stops it
+  pub runs_of_failed : {S T : Type 0} (old new : D) (t u : SiteValue) (s : State) (whole : List Append) (error : E) → (refuses error → ⊥) → AreAllowed s (events_of whole) → RunsFront disk moment left_since refuses old new t u {T = S} s whole (Err error)
+      → Runs disk moment left_since refuses old new t u {T = T} s whole (Err error)
+  runs_of_failed old new t u s whole error fault allowed run =
+      runs_failed disk moment left_since refuses old new t u s whole error fault allowed
+      (weaker moment left_since old new (Led (IsFrontOf run.plan) s) (Led (IsFrontOf whole) s) run.moments (λ c led. led_widens (IsFrontOf run.plan) (IsFrontOf whole) s c (λ plan front. front_of_front whole run.plan plan run.is front) led))
 
   -- ONE PLAN BEHIND ANOTHER
 

@@ -77,7 +77,7 @@ may_drop side v chunk idle named is =
     let its = first_in (orphans (on_side side v).shape) chunk is in
     spelled_kind side (shapes_in v) chunk idle named (ap (λ (s : Shape). may_drop_chunk s chunk) (on_shapes side v) ∙ orphan_may (on_side side v).shape chunk its.0 its.1)
 
-state_kind : (side : Side) (s : State) (chunk : List ℕ) → s.phase ≡ Idle → IsChunkName chunk → happens s (append_to side (DropChunkRecord chunk)) ≡ Some (after s (Appends (append_to side (DropChunkRecord chunk)))) → MayAppend s (append_to side (DropChunkRecord chunk))
+pub state_kind : (side : Side) (s : State) (chunk : List ℕ) → s.phase ≡ Idle → IsChunkName chunk → happens s (append_to side (DropChunkRecord chunk)) ≡ Some (after s (Appends (append_to side (DropChunkRecord chunk)))) → MayAppend s (append_to side (DropChunkRecord chunk))
 state_kind A s chunk idle named is = inr (inl (record { idle = idle; kind = tt; spelled = named; digest = tt; next = after s (Appends (append_to A (DropChunkRecord chunk))); folds = is }))
 state_kind B s chunk idle named is = inr (inl (record { idle = idle; kind = tt; spelled = named; digest = tt; next = after s (Appends (append_to B (DropChunkRecord chunk))); folds = is }))
 

@@ -2,6 +2,7 @@ pub mod Acting
 pub mod Appending
 pub mod BeginParts
 pub mod Beginning
+pub mod DropParts
 pub mod Dropping
 pub mod Entries
 pub mod Errors

@@ -5,6 +5,8 @@
 mod acting;
 mod appending;
 mod beginning;
+mod drop_room;
+mod dropping;
 mod entries;
 pub mod errors;
 mod moving;
