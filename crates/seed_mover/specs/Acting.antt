@@ -34,11 +34,7 @@ abbrev pub end_at : Side → Action
 end_at A = Undone
 end_at B = Moved
 
--- a volume, and the one that it gets files from
-abbrev pub on_side : Side → SiteValue → VolumeValue
-on_side A v = v.a
-on_side B v = v.b
-
+-- the volume that a side gets files from
 abbrev pub source_of : Side → SiteValue → VolumeValue
 source_of A v = v.b
 source_of B v = v.a

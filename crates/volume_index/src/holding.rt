@@ -6,7 +6,7 @@ ghost use Rattle.volume_index.specs.FirstLimits.{first_limit};
 ghost use Rattle.std.specs.Option.{option_map};
 ghost use Rattle.std.specs.String.{string_bytes};
 ghost use Rattle.file_names.specs.FileNames.{IsFileName};
-ghost use Rattle.site_forms.specs.Volumes.{distinct_count, used, with_chunk, with_file, without_file, without_chunk, may_add_file, may_drop_chunk};
+ghost use Rattle.site_forms.specs.Volumes.{distinct_count, pair_count, used, with_chunk, with_file, without_file, without_chunk, may_add_file, may_drop_chunk};
 ghost use Rattle.volume_index.specs.declared.index.Extent.{Extent};
 ghost use Rattle.volume_index.specs.Indexes.{IsSameHolding};
 ghost use Rattle.volume_index.specs.HoldingCalls.{IsFilePlace};
@@ -116,6 +116,20 @@ impl Holding {
         ensures len { option_map (λ (e : Extent). e.len) result ≡ fin_map.get self.now.shape.chunks name.now }
     {
         self.index.extent(name)
+    }
+
+    /// How many chunks the files use.
+    pub fn used_count(&self) -> u32
+        ensures { result ≡ fin_map.len (used self.now.shape.files) }
+    {
+        self.index.used_count()
+    }
+
+    /// How many pairs there are of a file and a chunk that it uses.
+    pub fn pair_count(&self) -> u32
+        ensures { result ≡ pair_count self.now.shape.files }
+    {
+        self.index.pair_count()
     }
 
     /// The bytes of all chunks.

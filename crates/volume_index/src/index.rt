@@ -6,7 +6,7 @@ ghost use Rattle.volume_index.specs.FirstLimits.{first_limit, first_broken};
 ghost use Rattle.std.specs.Option.{option_map};
 ghost use Rattle.std.specs.String.{string_bytes};
 ghost use Rattle.file_names.specs.FileNames.{IsFileName};
-ghost use Rattle.site_forms.specs.Volumes.{distinct_count, empty_volume, used, with_chunk, with_file, without_file, without_chunk, may_add_file, may_drop_chunk};
+ghost use Rattle.site_forms.specs.Volumes.{distinct_count, empty_volume, pair_count, used, with_chunk, with_file, without_file, without_chunk, may_add_file, may_drop_chunk};
 ghost use Rattle.volume_index.specs.declared.index.Extent.{Extent};
 ghost use Rattle.volume_index.specs.HoldingCalls.{IsFilePlace};
 ghost use Rattle.volume_index.specs.Indexes.{IsSameIndex};
@@ -158,6 +158,20 @@ impl Index {
             Some(chunk) => 0 < chunk.users,
             None => false,
         }
+    }
+
+    /// How many chunks the files use.
+    pub fn used_count(&self) -> u32
+        ensures { result ≡ fin_map.len (used self.now.shape.files) }
+    {
+        self.used
+    }
+
+    /// How many pairs there are of a file and a chunk that it uses.
+    pub fn pair_count(&self) -> u32
+        ensures { result ≡ pair_count self.now.shape.files }
+    {
+        self.pairs
     }
 
     /// The bytes of all chunks.
