@@ -11,7 +11,6 @@ use Rattle.site_forms.specs.Phases.{phase_of}
 use Rattle.site_forms.specs.Sites.{phase_at, volume_at}
 use Rattle.site_forms.specs.Volumes.{volume_of}
 use Rattle.chunk_log.specs.PlaceHalves.{SameOutside, images_of, IsDamaged, RestsAt}
-use Rattle.chunk_log.proofs.HalfFound.{stands_outside}
 use Rattle.chunk_volume.specs.declared.errors.VolError.{VolError}
 use Rattle.chunk_volume.specs.declared.errors.VolError.TheVariants as vol
 use Rattle.chunk_volume.specs.OpeningVolumes.{AnswersVolume, IsPlaceVolume, IsUnfolded as IsUnfoldedVolume, OpensVolume}
@@ -21,7 +20,6 @@ use Rattle.move_journal.specs.declared.errors.JournalError.{JournalError}
 use Rattle.move_journal.specs.declared.errors.JournalError.TheVariants as journal
 use Rattle.move_journal.specs.JournalValues.{JournalValue}
 use Rattle.move_journal.specs.Opening.{AnswersJournal, IsPlaceJournal, IsUnfolded as IsUnfoldedJournal, OpensJournal}
-use Rattle.move_journal.specs.Standing.{JournalStands}
 use Rattle.site_runs.specs.SiteValues.{AllAtRest}
 use Rattle.seed_mover.specs.declared.errors.SiteError.{SiteError}
 use Rattle.seed_mover.specs.declared.errors.SiteError.TheVariants as site
@@ -107,15 +105,6 @@ same_bad_journal d m device at one two bad = record {
   none = sym (same_phase_at d m one two) ∙ bad.none;
   cause = subst (λ (x : Medium). IsDamaged x.image (d 5).image 2 device at ⊎ IsUnfoldedJournal x.image (d 5).image device at) one
       (subst (λ (y : Medium). IsDamaged (m 2).image y.image 2 device at ⊎ IsUnfoldedJournal (m 2).image y.image device at) two bad.cause);
-}
-
--- the journal over calls on the devices of another place
-pub journal_outside : (place : ℕ) (j : JournalValue) (d e : Disk) → place ≤ 1 → SameOutside place d e → JournalStands j d → JournalStands j e
-journal_outside place j d e low same stands = record {
-  records = stands.records;
-  log = stands_outside place 2 stands.records j.log d e (omega (arith, low)) (λ is. omega (arith, is, low)) same stands.log;
-  folds = stands.folds;
-  last = stands.last;
 }
 
 -- NOTHING PENDING
