@@ -11,6 +11,14 @@ returns-in-CopyToB-clause-carried g c = λ s honest stands is.
     let rack = g.R.Rack in
     subst (λ (x : Action). CarriesOn rack.disk rack.moment rack.left_since c.args.rack.now c.copy.new.rack c.args.self.now c.copy.new.self s x c.copy.result) (sym c.in-CopyToB.is) (c.copy.ensures.carried s honest stands is)
 
+pub returns-in-AddToB-clause-carries : goal.returns-in-AddToB-clause-carries
+returns-in-AddToB-clause-carries g c = subst (λ (x : Action). Carries c.args.self.now c.add.new.self x c.add.result) (sym c.in-AddToB.is) c.add.ensures.carries
+
+pub returns-in-AddToB-clause-carried : goal.returns-in-AddToB-clause-carried
+returns-in-AddToB-clause-carried g c = λ s honest stands is.
+    let rack = g.R.Rack in
+    subst (λ (x : Action). CarriesOn rack.disk rack.moment rack.left_since c.args.rack.now c.add.new.rack c.args.self.now c.add.new.self s x c.add.result) (sym c.in-AddToB.is) (c.add.ensures.carried s honest stands is)
+
 pub returns-in-DropFromA-clause-carries : goal.returns-in-DropFromA-clause-carries
 returns-in-DropFromA-clause-carries g c = subst (λ (x : Action). Carries c.args.self.now c.drop_at.new.self x c.drop_at.result) (sym c.in-DropFromA.is) c.drop_at.ensures.carries
 
@@ -42,14 +50,6 @@ pub returns-in-CopyToA-clause-carried : goal.returns-in-CopyToA-clause-carried
 returns-in-CopyToA-clause-carried g c = λ s honest stands is.
     let rack = g.R.Rack in
     subst (λ (x : Action). CarriesOn rack.disk rack.moment rack.left_since c.args.rack.now c.copy-in-CopyToA.new.rack c.args.self.now c.copy-in-CopyToA.new.self s x c.copy-in-CopyToA.result) (sym c.in-CopyToA.is) (c.copy-in-CopyToA.ensures.carried s honest stands is)
-
-pub returns-in-AddToA-clause-carries : goal.returns-in-AddToA-clause-carries
-returns-in-AddToA-clause-carries g c = subst (λ (x : Action). Carries c.args.self.now c.add-in-AddToA.new.self x c.add-in-AddToA.result) (sym c.in-AddToA.is) c.add-in-AddToA.ensures.carries
-
-pub returns-in-AddToA-clause-carried : goal.returns-in-AddToA-clause-carried
-returns-in-AddToA-clause-carried g c = λ s honest stands is.
-    let rack = g.R.Rack in
-    subst (λ (x : Action). CarriesOn rack.disk rack.moment rack.left_since c.args.rack.now c.add-in-AddToA.new.rack c.args.self.now c.add-in-AddToA.new.self s x c.add-in-AddToA.result) (sym c.in-AddToA.is) (c.add-in-AddToA.ensures.carried s honest stands is)
 
 pub returns-in-DropFromB-clause-carries : goal.returns-in-DropFromB-clause-carries
 returns-in-DropFromB-clause-carries g c = subst (λ (x : Action). Carries c.args.self.now c.drop_at-in-DropFromB.new.self x c.drop_at-in-DropFromB.result) (sym c.in-DropFromB.is) c.drop_at-in-DropFromB.ensures.carries
