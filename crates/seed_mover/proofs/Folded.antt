@@ -28,8 +28,11 @@ some_map f None y none is = let no : ⊥ = cc in absurd no
 some_map f (Some x) y none is = refl
 
 -- an append that folds in memory folds onto the state
+pub folds_told : (s : State) (x : Append) (next : Shapes) → happens_to (shapes_of s) x ≡ Some next → happens s x ≡ Some (after s (Appends x))
+folds_told s x next is = some_map shapes_of (happens s x) next s (sym (shapes_step s x) ∙ is)
+
 pub folds_state : (v : SiteValue) (d : Disk) (s : State) (x : Append) (next : Shapes) → SiteStands v d s → happens_to (shapes_in v) x ≡ Some next → happens s x ≡ Some (after s (Appends x))
-folds_state v d s x next stands is = some_map shapes_of (happens s x) next s (sym (shapes_step s x) ∙ ap (λ t. happens_to t x) (sym (shapes_same v s d stands)) ∙ is)
+folds_state v d s x next stands is = folds_told s x next (ap (λ t. happens_to t x) (sym (shapes_same v s d stands)) ∙ is)
 
 -- its record can be spelled
 mark_spelled : (x : Append) → IsTurn x → IsSpelled x

@@ -2,6 +2,7 @@ pub mod Acting
 pub mod Appending
 pub mod BeginParts
 pub mod Beginning
+pub mod Blocks
 pub mod DropParts
 pub mod Dropping
 pub mod Entries
@@ -12,7 +13,9 @@ pub mod Moving
 pub mod Opening
 pub mod Parts
 pub mod Plans
+pub mod PutParts
 pub mod Putting
 pub mod Running
 pub mod SiteInside
+pub mod Through
 pub mod Unused
