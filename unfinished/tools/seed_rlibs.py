@@ -1,7 +1,7 @@
 #!/usr/bin/env python3
 # seed_rlibs.py CLONE..: link the proved rlibs of clones into the shared cache, by content
 import sys,os,re,hashlib,time
-CACHE='/tmp/rlibs'
+CACHE=os.environ['RLIBS']
 def run(top):
     deps={}
     for l in open(top+'/crates.txt'):

@@ -1,7 +1,7 @@
 #!/usr/bin/env python3
 # will.py CLONE: writes the digests of the clone's crates into WILL
 import sys,re,os,hashlib
-top=os.path.abspath(sys.argv[1]); CACHE='/tmp/rlibs'
+top=os.path.abspath(sys.argv[1]); CACHE=os.environ['RLIBS']
 deps={}
 for l in open(top+'/crates.txt'):
     m=re.match(r'(\w+):(.*)',l)
